@@ -1,0 +1,38 @@
+-- Document 01, "Numbers of refusal, in the order of checks": the number of each answer, and every field beside it.
+use Prim.Native.Nat.{ℕ}
+use Rattle.answer.specs.declared.Answer.{Answer}
+use Rattle.answer.specs.declared.Answer.the-variants.{Done, Handling, Table, Source, Destination, Path, Count, Room, Stop, Range}
+use Rattle.answer.specs.declared.Values.{Values}
+
+-- the column "No."
+abbrev pub numberOf : Answer → ℕ
+numberOf (Done count) = 0
+numberOf Handling = 1
+numberOf Table = 2
+numberOf (Source line) = 3
+numberOf (Destination line) = 4
+numberOf Path = 5
+numberOf Count = 6
+numberOf Room = 7
+numberOf (Stop i at kind) = 8
+numberOf Range = 9
+
+-- "Unnamed fields are 0."
+abbrev unnamed : Values
+unnamed = record { count = 0; line = 0; «record» = 0; at = 0; kind = 0 }
+
+abbrev ofLine : ℕ → Values
+ofLine k = record { count = 0; line = k; «record» = 0; at = 0; kind = 0 }
+
+-- the column "Place fields", and the exception count of a call that is done
+abbrev pub valuesOf : Answer → Values
+valuesOf (Done count) = record { count = count; line = 0; «record» = 0; at = 0; kind = 0 }
+valuesOf Handling = unnamed
+valuesOf Table = unnamed
+valuesOf (Source line) = ofLine line
+valuesOf (Destination line) = ofLine line
+valuesOf Path = unnamed
+valuesOf Count = unnamed
+valuesOf Room = unnamed
+valuesOf (Stop i at kind) = record { count = 0; line = 0; «record» = i; at = at; kind = kind }
+valuesOf Range = unnamed

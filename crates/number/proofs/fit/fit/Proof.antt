@@ -1,0 +1,25 @@
+-- `number::fit::fit` meets its contract. Assumes nothing.
+use Rattle.number.specs.Parts.{meaning}
+use Rattle.number.proofs.RoundTrip.{fitted-raw}
+use borrow.Author.Needs.{needs}
+use Rattle.number.proofs.fit.fit.Statement.{statement}
+use Rattle.number.proofs.fit.fit.Tie as tie
+
+split-requires : tie.Need-split-requires
+split-requires c κs = search needs
+
+fit-signed-requires : tie.Need-fit-signed-requires
+fit-signed-requires c κs = search needs
+
+fit-unsigned-requires : tie.Need-fit-unsigned-requires
+fit-unsigned-requires c κs = search needs
+
+returns : tie.Need-returns
+returns c = fitted-raw _ (meaning (c .before .before .before .args .z)) _ (c .before .before .before .pre) (rw (c .before .if1 .taken) (cc))
+
+returns-2 : tie.Need-returns-2
+returns-2 c = fitted-raw _ (meaning (c .before .before .before .args .z)) _ (c .before .before .before .pre) (rw (c .before .if1 .left) (cc))
+
+pub fit-spec : {M : Type 1} → statement M
+fit-spec =
+    tie.close (tie.spec split-requires fit-signed-requires fit-unsigned-requires returns returns-2)

@@ -1,0 +1,52 @@
+-- `number::place::fill` meets its contract. The pads and the significant bits stand side by side in the container's bits (`cat-within`). Assumes nothing.
+use Prim.Native.Nat.{_<_, _^_}
+use mathlib.Core.Path.{_≡_}
+use native.Mathlib.Nat.{lt-of-lt-of-le}
+use native.Mathlib.Omega.{arith}
+use borrow.Author.Needs.{needs}
+use lib.Pow.{pow-mono, shr-lt}
+use Rattle.number.proofs.Fields.{cat-within}
+use Rattle.number.proofs.place.fill.Statement.{statement}
+use Rattle.number.proofs.place.fill.Tie as tie
+
+add-end : tie.Need-add-end
+add-end c = search needs
+
+bits-of-requires : tie.Need-bits-of-requires
+bits-of-requires c κs = search needs
+
+low-bits-requires : tie.Need-low-bits-requires
+low-bits-requires c κs = search needs
+
+pad-bits-requires : tie.Need-pad-bits-requires
+pad-bits-requires c κs = search needs
+
+sub-pad-bits : tie.Need-sub-pad-bits
+sub-pad-bits c = search needs
+
+shift-right-requires : tie.Need-shift-right-requires
+shift-right-requires c κs = search needs
+
+-- the background's bits above the field
+pad-bits-requires-2 : tie.Need-pad-bits-requires-2
+pad-bits-requires-2 c κs =
+    let pre = c .before .before .before .before .before .before .pre in
+    (omega arith, rw (c .shift-right .ensures) (shr-lt _ _ (lt-of-lt-of-le (pre .1) (pow-mono (omega arith)))))
+
+join-requires : tie.Need-join-requires
+join-requires c κs =
+    let pre = c .before .before .before .before .before .before .before .pre in
+    (omega arith, cat-within _ _ 64 (pre .2) (c .before .before .before .pad-bits .ensures .1) (omega arith))
+
+join-requires-2 : tie.Need-join-requires-2
+join-requires-2 c κs =
+    let pre = c .before .before .before .before .before .before .before .before .pre in
+    let low = c .before .before .before .before .pad-bits .ensures .1 in
+    (omega arith, cat-within _ _ 64 (c .before .pad-bits2 .ensures .1) (rw (c .join .ensures) (cat-within _ _ _ (pre .2) low (omega arith))) (omega arith))
+
+returns : tie.Need-returns
+returns c = cc
+
+pub fill-spec : {M : Type 1} → statement M
+fill-spec =
+    tie.close (tie.spec add-end bits-of-requires low-bits-requires pad-bits-requires sub-pad-bits shift-right-requires pad-bits-requires-2 join-requires join-requires-2 returns)

@@ -1,0 +1,37 @@
+-- `number::place::raw_at` meets its contract. Assumes nothing.
+use borrow.Author.Needs.{needs}
+use Rattle.number.proofs.place.raw_at.Statement.{statement}
+use Rattle.number.proofs.place.raw_at.Tie as tie
+
+sub-if1 : tie.Need-sub-if1
+sub-if1 c = search needs
+
+window-requires : tie.Need-window-requires
+window-requires c κs = search needs
+
+returns : tie.Need-returns
+returns c = search needs
+
+load-requires : tie.Need-load-requires
+load-requires c κs = search needs
+
+shift-right-requires : tie.Need-shift-right-requires
+shift-right-requires c κs = search needs
+
+low-bits-requires : tie.Need-low-bits-requires
+low-bits-requires c κs = search needs
+
+returns-2 : tie.Need-returns-2
+returns-2 c = (cc, search needs)
+
+pub raw-at-spec : {M : Type 1} → statement M
+raw-at-spec =
+    tie.close
+    (tie.spec
+    sub-if1
+    window-requires
+    returns
+    load-requires
+    shift-right-requires
+    low-bits-requires
+    returns-2)

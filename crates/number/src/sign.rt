@@ -1,0 +1,68 @@
+// A number by its sign: from its bits, and apart into sign and distance.
+ghost use mathlib.Core.Path.{_≡_};
+ghost use Prim.Native.Nat.{_^_, _≤_, _<_};
+ghost use lib.IntN.{pos, negsuc};
+ghost use Rattle.number.specs.Number.{valued};
+ghost use Rattle.number.specs.Parts.{meaning, signedBy};
+use crate::Number;
+use crate::Parts;
+use bits::shift::ones;
+use bits::shift::pow2;
+
+// The i64 that is not negative, and the one that is.
+pub fn above(n: u64) -> i64
+    requires { ⌜ n < 2 ^ 63 ⌝ }
+    ensures { λ r. ⌜ r ≡ pos n ⌝ }
+{
+    n as i64
+}
+
+pub fn below(n: u64) -> i64
+    requires { ⌜ n < 2 ^ 63 ⌝ }
+    ensures { λ r. ⌜ r ≡ negsuc n ⌝ }
+{
+    !(n as i64)
+}
+
+fn parts_of(z: i64) -> Parts
+    ensures { λ r. ⌜ z ≡ signedBy (r .negative) (r .distance) ⌝ }
+{
+    if z < 0 {
+        Parts {
+            negative: true,
+            distance: !z as u64,
+        }
+    } else {
+        Parts {
+            negative: false,
+            distance: z as u64,
+        }
+    }
+}
+
+pub fn split(z: Number) -> Parts
+    ensures { λ r. ⌜ meaning z ≡ signedBy (r .negative) (r .distance) ⌝ }
+{
+    match z {
+        Number::Signed(z) => parts_of(z),
+        Number::Unsigned(n) => Parts {
+            negative: false,
+            distance: n,
+        },
+    }
+}
+
+pub fn number_of(signed: bool, precision: u32, raw: u64) -> Number
+    requires { ⌜ (1 ≤ precision) × (precision ≤ 64) × (raw < 2 ^ precision) ⌝ }
+    ensures { λ r. ⌜ meaning r ≡ valued signed precision raw ⌝ }
+{
+    if signed {
+        if raw < pow2(precision - 1) {
+            Number::Signed(above(raw))
+        } else {
+            Number::Signed(below(ones(precision) - raw))
+        }
+    } else {
+        Number::Unsigned(raw)
+    }
+}
