@@ -1,0 +1,154 @@
+-- Whole calls of the four converting forms: from everything that is lent to the answer and every buffer afterwards.
+use mathlib.Core.Bool.{Bool, true, false, _&&_}
+use mathlib.Core.List.{List, _++_}
+use Prim.Native.Nat.{ℕ, zero, suc, _*_, max}
+use lib.Dec.{leb}
+use lib.ListN.{length, drop, replicate}
+use Rattle.answer.specs.declared.Answer.{Answer}
+use Rattle.answer.specs.declared.Answer.the-variants.{Done, Handling, Table, Source, Destination, Path, Count, Room, Stop, Range}
+use Rattle.datatype.specs.Datatype.{Datatype, size}
+use Rattle.datatype.specs.Symbols.{onSome}
+use Rattle.datatype.specs.Paths.{hasPath}
+use Rattle.sheet.specs.Sheet.{Sheet, sheetOf}
+use Rattle.sheet.specs.Sheet.Sheet.{ofType, faultyAt}
+use Rattle.records.specs.Record.{Reading, kindAt, firstRaising}
+use Rattle.records.specs.Records.{Readings, readings, exceptions, copyResult, inPlaceResult}
+
+-- "Two forms. Copying: a source buffer and a destination buffer, whose own bytes are the background. In place: one buffer and a separate background."
+pub data Form : Type 0 where
+  copying inPlace : Form
+
+-- everything that a call is lent
+pub record Run : Type 0 where
+  pub form : Form
+  pub handling : ℕ
+  pub sourceSheet : List ℕ
+  pub destinationSheet : List ℕ
+  pub count : ℕ
+  pub source : List ℕ  -- the source buffer; in place, the one buffer
+  pub background : List ℕ  -- the destination buffer; in place, the separate background
+  pub table : List ℕ  -- the working table's words
+
+-- "Each also has a plain form without handling, which clamps."
+abbrev pub plain : ℕ
+plain = 0
+
+abbrev pub copyingRun : List ℕ → List ℕ → ℕ → ℕ → List ℕ → List ℕ → List ℕ → Run
+copyingRun ss ds n handling source destination table =
+    record { form = copying; handling = handling; sourceSheet = ss; destinationSheet = ds; count = n; source = source; background = destination; table = table }
+
+abbrev pub inPlaceRun : List ℕ → List ℕ → ℕ → ℕ → List ℕ → List ℕ → List ℕ → Run
+inPlaceRun ss ds n handling buffer background table =
+    record { form = inPlace; handling = handling; sourceSheet = ss; destinationSheet = ds; count = n; source = buffer; background = background; table = table }
+
+-- ---- "Numbers of refusal, in the order of checks": the checks before STOP
+
+-- what the checks say: a refusal, or the two sheets' types
+pub data Checked : Type 0 where
+  refused : Answer → Checked
+  passed : Datatype → Datatype → Checked
+
+abbrev pub require : Bool → Answer → Checked → Checked
+require true refusal next = next
+require false refusal next = refused refusal
+
+abbrev pub withSheet : Sheet → (ℕ → Answer) → (Datatype → Checked) → Checked
+withSheet (ofType T) refusal next = next T
+withSheet (faultyAt k) refusal next = refused (refusal k)
+
+-- "7 ROOM: source under nS, destination or background under nD, in-place buffer under n × max(S, D)"
+abbrev pub hasRoom : Form → ℕ → ℕ → ℕ → ℕ → ℕ → Bool
+hasRoom copying n S D source background = leb (n * S) source && leb (n * D) background
+hasRoom inPlace n S D buffer background = leb (n * max S D) buffer && leb (n * D) background
+
+-- the two sheets by their texts, the buffers and the table by their lengths
+unfoldable pub checksOf : Form → ℕ → List ℕ → List ℕ → ℕ → ℕ → ℕ → ℕ → Checked
+checksOf form handling ss ds n source background table =
+    require (leb handling 1) Handling
+    (require (leb 8192 table) Table
+    (withSheet (sheetOf ss) Source
+    (λ S. withSheet (sheetOf ds) Destination
+    (λ D. require (hasPath S D) Path
+    (require (leb n 65536) Count
+    (require (hasRoom form n (size S) (size D) source background) Room
+    (passed S D)))))))
+
+abbrev pub checks : Run → Checked
+checks r =
+    checksOf (r .form) (r .handling) (r .sourceSheet) (r .destinationSheet) (r .count) (length (r .source)) (length (r .background)) (length (r .table))
+
+abbrev pub onChecked : {A : Type 0} → (Datatype → Datatype → A) → (Answer → A) → Checked → A
+onChecked f g (refused a) = g a
+onChecked f g (passed S D) = f S D
+
+-- ---- the answer
+
+-- STOP at the first raising leaf of record i, if there is one, else what the later records say
+abbrev pub orStop : Datatype → Datatype → ℕ → Reading → Answer → Answer
+orStop S D i f later = onSome (λ b. Stop i b (kindAt S D f b)) later (firstRaising S D f 0 (size D))
+
+-- "STOP names the lowest record, and in it the raising leaf whose first byte is lowest." Over the k records from i on
+unfoldable pub stopFrom : Datatype → Datatype → Readings → ℕ → ℕ → Answer
+stopFrom S D fs i zero = Done 0
+stopFrom S D fs i (suc k) = orStop S D i (fs i) (stopFrom S D fs (suc i) k)
+
+-- "Handling 0 (clamp) writes these results; handling 1 (stop) refuses if any exception exists."
+abbrev pub handled : ℕ → Datatype → Datatype → ℕ → Readings → Answer
+handled zero S D n fs = Done (exceptions S D n fs)
+handled (suc h) S D n fs = stopFrom S D fs 0 n
+
+abbrev pub answerFor : Run → Datatype → Datatype → Answer
+answerFor r S D = handled (r .handling) S D (r .count) (readings S D (r .source))
+
+unfoldable pub answer : Run → Answer
+answer r = onChecked (answerFor r) (λ refusal. refusal) (checks r)
+
+-- ---- the buffer that is written
+
+-- the destination buffer; in place, the one buffer
+abbrev pub target : Form → List ℕ → List ℕ → List ℕ
+target copying source background = background
+target inPlace buffer background = buffer
+
+abbrev pub result : Form → Datatype → Datatype → ℕ → List ℕ → List ℕ → List ℕ
+result copying S D n source background = copyResult S D n source background
+result inPlace S D n buffer background = inPlaceResult S D n buffer background
+
+-- "A refusal leaves data and list buffers unchanged"
+abbrev pub ifDone : Answer → List ℕ → List ℕ → List ℕ
+ifDone (Done count) new old = new
+ifDone Handling new old = old
+ifDone Table new old = old
+ifDone (Source line) new old = old
+ifDone (Destination line) new old = old
+ifDone Path new old = old
+ifDone Count new old = old
+ifDone Room new old = old
+ifDone (Stop i at kind) new old = old
+ifDone Range new old = old
+
+unfoldable pub after : Run → List ℕ
+after r =
+    onChecked
+    (λ S D. ifDone (answerFor r S D) (result (r .form) S D (r .count) (r .source) (r .background)) (target (r .form) (r .source) (r .background)))
+    (λ refusal. target (r .form) (r .source) (r .background))
+    (checks r)
+
+-- ---- the working table
+
+-- "Its first 8,192 words are zero after every call that passes check 2; words beyond never change."
+unfoldable pub cleared : List ℕ → List ℕ
+cleared table = replicate 8192 0 ++ drop 8192 table
+
+-- "after 1 and 2 the table too" is unchanged
+abbrev pub tableAfter : Answer → List ℕ → List ℕ
+tableAfter (Done count) table = cleared table
+tableAfter Handling table = table
+tableAfter Table table = table
+tableAfter (Source line) table = cleared table
+tableAfter (Destination line) table = cleared table
+tableAfter Path table = cleared table
+tableAfter Count table = cleared table
+tableAfter Room table = cleared table
+tableAfter (Stop i at kind) table = cleared table
+tableAfter Range table = cleared table

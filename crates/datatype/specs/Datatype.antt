@@ -1,0 +1,53 @@
+-- Document 01, "Layout sheets": datatypes as trees. A line that names a type by its number takes that type's tree over.
+use mathlib.Core.Bool.{Bool, true, false, _&&_}
+use mathlib.Core.List.{List, [], _∷_}
+use Prim.Native.Nat.{ℕ, _*_}
+use lib.Dec.{eqb}
+use lib.IntN.{ℤ}
+use Rattle.layout.specs.declared.Layout.{Layout}
+
+-- a value line of an enum: a symbol's name and its number
+pub record Symbol : Type 0 where
+  pub name : List ℕ
+  pub number : ℤ
+
+-- "A leaf is an int, bits or enum place." An atomic leaf's layout says whether it is int or bits; an enum has the layout of its base.
+pub data Leaf : Type 0 where
+  atomic : Layout → Leaf
+  enumeration : Layout → List Symbol → Leaf
+
+-- Each compound and each array says its size in bytes first. An array has its dimensions d1 up to d4 and its base. Symbols and members stand newest first.
+mutual
+  pub data Datatype : Type 0 where
+    leaf : Leaf → Datatype
+    compound : ℕ → Members → Datatype
+    array : ℕ → List ℕ → Datatype → Datatype
+
+  -- a member's name, its byte offset and its type, and the members before it
+  pub data Members : Type 0 where
+    empty : Members
+    member : List ℕ → ℕ → Datatype → Members → Members
+
+abbrev pub layoutOf : Leaf → Layout
+layoutOf (atomic l) = l
+layoutOf (enumeration l ss) = l
+
+abbrev pub leafSize : Leaf → ℕ
+leafSize x = layoutOf x .size .0
+
+abbrev pub size : Datatype → ℕ
+size (leaf x) = leafSize x
+size (compound z ms) = z
+size (array z ds T) = z
+
+-- "total element counts": the product of an array's dimensions
+abbrev pub elements : List ℕ → ℕ
+elements [] = 1
+elements (d ∷ ds) = d * elements ds
+
+-- two names are the same, byte by byte
+unfoldable pub same : List ℕ → List ℕ → Bool
+same [] [] = true
+same [] (y ∷ ys) = false
+same (x ∷ xs) [] = false
+same (x ∷ xs) (y ∷ ys) = eqb x y && same xs ys

@@ -1,0 +1,6 @@
+pub mod Datatype
+pub mod Symbols
+pub mod Leaves
+pub mod Paths
+pub mod Matches
+pub mod WellFormed

@@ -1,0 +1,1 @@
+// The leaf list: definitions in specs/, no code yet.

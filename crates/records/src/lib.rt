@@ -1,0 +1,1 @@
+// One record and n records, converted: definitions in specs/, no code yet.

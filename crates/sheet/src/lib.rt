@@ -1,0 +1,1 @@
+// Layout sheets: definitions in specs/, no code yet.
