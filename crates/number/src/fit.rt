@@ -17,12 +17,15 @@ fn fit_unsigned(z: Parts, precision: u32) -> Fitted
     requires { ⌜ precision ≤ 64 ⌝ }
     ensures { λ r. ⌜ r ≡ fittedTo false precision (signedBy (z .negative) (z .distance)) ⌝ }
 {
-    let most = ones(precision);
+    let largest = ones(precision);
     if z.negative {
         return Fitted { raw: 0, kind: 2 };
     }
-    if most < z.distance {
-        return Fitted { raw: most, kind: 1 };
+    if largest < z.distance {
+        return Fitted {
+            raw: largest,
+            kind: 1,
+        };
     }
     Fitted {
         raw: z.distance,
@@ -34,12 +37,13 @@ fn fit_signed(z: Parts, precision: u32) -> Fitted
     requires { ⌜ (1 ≤ precision) × (precision ≤ 64) ⌝ }
     ensures { λ r. ⌜ r ≡ fittedTo true precision (signedBy (z .negative) (z .distance)) ⌝ }
 {
-    let most = ones(precision - 1);
+    let largest = ones(precision - 1);
     let all = ones(precision);
+    let smallest = all - largest;
     if z.negative {
-        if most < z.distance {
+        if largest < z.distance {
             return Fitted {
-                raw: all - most,
+                raw: smallest,
                 kind: 2,
             };
         }
@@ -48,8 +52,11 @@ fn fit_signed(z: Parts, precision: u32) -> Fitted
             kind: 0,
         };
     }
-    if most < z.distance {
-        return Fitted { raw: most, kind: 1 };
+    if largest < z.distance {
+        return Fitted {
+            raw: largest,
+            kind: 1,
+        };
     }
     Fitted {
         raw: z.distance,

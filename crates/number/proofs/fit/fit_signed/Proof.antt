@@ -15,8 +15,8 @@ ones-requires c κs = search needs
 ones-requires-2 : tie.Need-ones-requires-2
 ones-requires-2 c κs = search needs
 
-sub-t8 : tie.Need-sub-t8
-sub-t8 c = rw (c .before .before .before .before .ones .ensures, c .before .before .before .ones2 .ensures) (most-le _)
+sub-smallest : tie.Need-sub-smallest
+sub-smallest c = rw (c .before .ones .ensures, c .ones2 .ensures) (most-le _)
 
 returns : tie.Need-returns
 returns c =
@@ -45,4 +45,4 @@ returns-4 c =
 
 pub fit-signed-spec : {M : Type 1} → statement M
 fit-signed-spec =
-    tie.close (tie.spec sub-ones ones-requires ones-requires-2 sub-t8 returns sub-t9 returns-2 returns-3 returns-4)
+    tie.close (tie.spec sub-ones ones-requires ones-requires-2 sub-smallest returns sub-t9 returns-2 returns-3 returns-4)
