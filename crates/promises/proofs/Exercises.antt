@@ -29,7 +29,7 @@ use Rattle.datatype.specs.Matches as matches
 use Rattle.text.specs.Text as text
 use Rattle.text.specs.Text.{bytes}
 use Rattle.text.specs.Field as fields
-use Rattle.sheet.specs.Line as line
+use Rattle.line.specs.Line as line
 use Rattle.sheet.specs.Sheet as sheet
 use Rattle.records.specs.Record as one
 use Rattle.records.specs.Records as many

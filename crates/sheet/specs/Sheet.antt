@@ -19,8 +19,8 @@ use Rattle.datatype.specs.Symbols.{onSome, symbolOf, numberOf}
 use Rattle.datatype.specs.Paths.{memberNamed, onFound}
 use Rattle.text.specs.Text.{newline, split}
 use Rattle.text.specs.Field.{when, _>>=_}
-use Rattle.sheet.specs.Line.{Line, lineOf}
-use Rattle.sheet.specs.Line.Line.{atomicLine, enumLine, valueLine, compoundLine, memberLine, arrayLine}
+use Rattle.line.specs.Line.{Line, lineOf}
+use Rattle.line.specs.Line.Line.{atomicLine, enumLine, valueLine, compoundLine, memberLine, arrayLine}
 
 -- what the lines before a line gave: the types, the newest first, and how many value and member lines there were
 pub record SoFar : Type 0 where

@@ -1,0 +1,3 @@
+pub mod Valid
+pub mod Edits
+pub mod Keeps

@@ -1,0 +1,1 @@
+// The working table's records of types and rows.
