@@ -1,5 +1,5 @@
 -- The test `valid` and the facts `Valid` say the same of a layout. Assumes nothing.
-use mathlib.Core.Path.{_≡_, refl}
+use mathlib.Core.Path.{_≡_, refl, sym, _∙_}
 use mathlib.Core.Bool.{Bool, true, false, _&&_, false≢true, and-eq-true-iff}
 use Prim.Native.Nat.{ℕ, _+_, _-_, _*_, _≤_, _<_}
 use native.Mathlib.Omega.{arith}
@@ -52,3 +52,7 @@ facts l h =
 pub tested : (l : Layout) → Valid l → valid l ≡ true
 tested l v =
     rw (le-leb _ _ (v .some-bytes), le-leb _ _ (v .sized), le-leb _ _ (v .some), le-leb _ _ (v .most), le-leb _ _ (v .inside), v .sign)
+
+-- what a caller of `is_valid` learns where it says true
+pub told : {l : Layout} {r : Bool} → r ≡ valid l → r ≡ true → Valid l
+told {l} e h = facts l (sym e ∙ h)
