@@ -4,3 +4,4 @@ pub mod Fields
 pub mod Widen
 pub mod Pads
 pub mod RoundTrip
+pub mod Bits

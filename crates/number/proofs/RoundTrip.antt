@@ -118,6 +118,10 @@ read-back l i s z v h e =
     ap (valued (l .signed) (l .precision)) (raw-back l i (fitted l z .raw) s v h (fitted-lt (l .signed) (l .precision) z (v .some)))
     ∙ fitted-back (l .signed) (l .precision) z (v .some) e
 
+-- a number that was read fits its own layout: its bits come back, and nothing is raised
+pub read-fits : (l : Layout) (i : ℕ) (s : List ℕ) → Valid l → fitted l (numberAt l i s) ≡ record { raw = rawAt l i s; kind = 0 }
+read-fits l i s v = bits-back (l .signed) (l .precision) (rawAt l i s) (v .some) (mod-lt _ (pow-pos (l .precision)))
+
 -- what a writer of several leaves needs: the length stays, and so do the bytes before and behind
 pub stored-length : (l : Layout) (i r : ℕ) (s : List ℕ) → i + l .size .0 ≤ length s → length (stored l i r s) ≡ length s
 stored-length l i r s h = length-paste s i _ (l .size .0) h (le-of-eq (sym (contained-length (l .order) (l .size .0) _)))
