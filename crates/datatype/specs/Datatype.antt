@@ -1,10 +1,12 @@
 -- Document 01, "Layout sheets": datatypes as trees. A line that names a type by its number takes that type's tree over.
-use mathlib.Core.Bool.{Bool, true, false, _&&_}
+use mathlib.Core.Bool.{cond}
 use mathlib.Core.List.{List, [], _∷_}
 use Prim.Native.Nat.{ℕ, _*_}
 use lib.Dec.{eqb}
 use lib.IntN.{ℤ}
 use Rattle.layout.specs.declared.Layout.{Layout}
+-- names are compared byte by byte
+unfoldable pub use Rattle.text.specs.Place.{sameBytes as same}
 
 -- a value line of an enum: a symbol's name and its number
 pub record Symbol : Type 0 where
@@ -45,9 +47,7 @@ abbrev pub elements : List ℕ → ℕ
 elements [] = 1
 elements (d ∷ ds) = d * elements ds
 
--- two names are the same, byte by byte
-unfoldable pub same : List ℕ → List ℕ → Bool
-same [] [] = true
-same [] (y ∷ ys) = false
-same (x ∷ xs) [] = false
-same (x ∷ xs) (y ∷ ys) = eqb x y && same xs ys
+-- the dimensions of an array in four numbers, 0 for none: those up to the first 0
+abbrev pub upToZero : List ℕ → List ℕ
+upToZero [] = []
+upToZero (d ∷ ds) = cond (eqb d 0) [] (d ∷ upToZero ds)

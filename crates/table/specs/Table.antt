@@ -18,7 +18,7 @@ use Rattle.layout.specs.declared.Pad.{Pad}
 use Rattle.layout.specs.declared.Pad.the-variants.{Zero, One, Keep}
 use Rattle.layout.specs.declared.Layout.{Layout}
 use Rattle.number.specs.Parts.{signedBy}
-use Rattle.datatype.specs.Datatype.{Symbol, Leaf, Datatype, Members}
+use Rattle.datatype.specs.Datatype.{Symbol, Leaf, Datatype, Members, upToZero}
 use Rattle.datatype.specs.Datatype.Leaf.{atomic, enumeration}
 use Rattle.datatype.specs.Datatype.Datatype.{leaf, compound, array}
 use Rattle.datatype.specs.Datatype.Members.{empty, member}
@@ -113,11 +113,6 @@ unfoldable pub membersAt : (ℕ → Datatype) → List ℕ → List ℕ → ℕ 
 membersAt D w t first zero = empty
 membersAt D w t first (suc n) =
     member (nameAt w t (first + n)) (offsetWord w (first + n)) (D (memberTypeWord w (first + n))) (membersAt D w t first n)
-
--- the dimensions up to the first 0
-abbrev pub upToZero : List ℕ → List ℕ
-upToZero [] = []
-upToZero (d ∷ ds) = cond (eqb d 0) [] (d ∷ upToZero ds)
 
 abbrev pub dimensionsAt : List ℕ → ℕ → List ℕ
 dimensionsAt w i = upToZero (typeWord w i 11 ∷ typeWord w i 12 ∷ typeWord w i 13 ∷ typeWord w i 14 ∷ [])
