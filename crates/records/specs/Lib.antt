@@ -1,3 +1,5 @@
 pub mod Leaf
+pub mod Arrival
 pub mod Record
 pub mod Records
+pub mod Matched

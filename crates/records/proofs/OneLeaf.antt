@@ -1,0 +1,154 @@
+-- One leaf converted and converted back. Assumes nothing.
+use mathlib.Core.Path.{_≡_, refl, sym, ap, _∙_, subst}
+use mathlib.Core.Logic.{_⊎_, inl, inr}
+use mathlib.Core.Bool.{Bool, true, false, cond, false≢true}
+use mathlib.Core.List.{List, [], _∷_}
+use mathlib.Core.Option.{Option, none, some}
+use Prim.Native.Nat.{ℕ, _^_, _<_}
+use native.Mathlib.Nat.{mod-lt}
+use native.Mathlib.Omega.{arith}
+use lib.IntN.{ℤ}
+use lib.Pow.{pow-pos, ones-lt}
+use Rattle.layout.specs.declared.Layout.{Layout}
+use Rattle.layout.specs.Layout.{Valid}
+use Rattle.number.specs.declared.Fitted.{Fitted}
+use Rattle.number.specs.Place.{rawAt}
+use Rattle.number.specs.Number.{valued, fitted}
+use Rattle.number.proofs.RoundTrip.{fitted-back, fitted-lt, bits-back}
+use Rattle.datatype.specs.Datatype.{Symbol, Leaf, layoutOf, same}
+use Rattle.datatype.specs.Datatype.Leaf.{atomic, enumeration}
+use Rattle.datatype.specs.Symbols.{onSome, sameNumber, symbolOf, numberOf}
+use Rattle.datatype.specs.Paths.{leafPath}
+use Rattle.datatype.specs.WellFormed.{Symbols, WellFormedLeaf}
+use Rattle.datatype.proofs.Tests.{nothing, same→eq, same-refl, sameNumber→eq, sameNumber-refl}
+use Rattle.datatype.proofs.Ways.{valid}
+use Rattle.records.specs.Leaf.{numberIn, symbols, translated, untranslated, converted}
+use Rattle.records.specs.Arrival.{standsFor, Arrives}
+
+-- ---- symbols go both ways
+
+symbol-number : (l : Layout) (ss : List Symbol) (z : ℤ) (x : List ℕ) → Symbols l ss → symbolOf z ss ≡ some x → numberOf x ss ≡ some z
+unfolding symbolOf numberOf
+symbol-number l [] z x f e = nothing e
+symbol-number l (s ∷ ss) z x f e = go (symbol-number l ss z x (f .1)) (sameNumber z (s .number)) refl e
+  where
+    later : (t : Bool) → same x (s .name) ≡ t → numberOf x ss ≡ some z → cond t (some (s .number)) (numberOf x ss) ≡ some z
+    later true q g = nothing (sym (f .0 .name-once) ∙ ap (λ (k : List ℕ). numberOf k ss) (sym (same→eq x (s .name) q)) ∙ g)
+    later false q g = g
+
+    go : (symbolOf z ss ≡ some x → numberOf x ss ≡ some z) → (t : Bool) → sameNumber z (s .number) ≡ t → cond t (some (s .name)) (symbolOf z ss) ≡ some x
+        → cond (same x (s .name)) (some (s .number)) (numberOf x ss) ≡ some z
+    go next true q g =
+        let i : s .name ≡ x = cc in
+        rw (← i, same-refl (s .name), sameNumber→eq z (s .number) q)
+    go next false q g = later (same x (s .name)) refl (next g)
+
+number-symbol : (l : Layout) (ss : List Symbol) (z : ℤ) (x : List ℕ) → Symbols l ss → numberOf x ss ≡ some z → symbolOf z ss ≡ some x
+unfolding symbolOf numberOf
+number-symbol l [] z x f e = nothing e
+number-symbol l (s ∷ ss) z x f e = go (number-symbol l ss z x (f .1)) (same x (s .name)) refl e
+  where
+    later : (t : Bool) → sameNumber z (s .number) ≡ t → symbolOf z ss ≡ some x → cond t (some (s .name)) (symbolOf z ss) ≡ some x
+    later true q g = nothing (sym (f .0 .number-once) ∙ ap (λ (k : ℤ). symbolOf k ss) (sym (sameNumber→eq z (s .number) q)) ∙ g)
+    later false q g = g
+
+    go : (numberOf x ss ≡ some z → symbolOf z ss ≡ some x) → (t : Bool) → same x (s .name) ≡ t → cond t (some (s .number)) (numberOf x ss) ≡ some z
+        → cond (sameNumber z (s .number)) (some (s .name)) (symbolOf z ss) ≡ some x
+    go next true q g =
+        let i : s .number ≡ z = cc in
+        rw (← i, sameNumber-refl (s .number), same→eq x (s .name) q)
+    go next false q g = later (sameNumber z (s .number)) refl (next g)
+
+-- a number that was translated is translated back
+translated-back : (l k : Layout) (ss ts : List Symbol) (z w : ℤ) → Symbols l ss → Symbols k ts → translated ss ts z ≡ some w → translated ts ss w ≡ some z
+translated-back l k ss ts z w f g e = go (symbolOf z ss) refl e
+  where
+    go : (o : Option (List ℕ)) → symbolOf z ss ≡ o → onSome (λ x. numberOf x ts) none o ≡ some w → translated ts ss w ≡ some z
+    go none q h = nothing h
+    go (some x) q h = rw (number-symbol k ts w x g h) (symbol-number l ss z x f q)
+
+-- ---- what is written has the leaf's bits
+
+pub converted-lt : (x y : Leaf) (z : ℤ) → WellFormedLeaf y → converted x y z .raw < 2 ^ layoutOf y .precision
+converted-lt x (atomic l) z f = fitted-lt (l .signed) (l .precision) z (f .some)
+converted-lt x (enumeration l ts) z f = go (translated (symbols x) ts z)
+  where
+    go : (o : Option ℤ) → onSome (fitted l) (untranslated l) o .raw < 2 ^ l .precision
+    go none = ones-lt (l .precision)
+    go (some w) = fitted-lt (l .signed) (l .precision) w (f .base .some)
+
+-- ---- what arrives
+
+pub arrives : (x y : Leaf) (z : ℤ) → WellFormedLeaf y → converted x y z .kind ≡ 0 → Arrives x y z (standsFor y (converted x y z .raw))
+arrives x (atomic l) z f e = fitted-back (l .signed) (l .precision) z (f .some) e
+arrives x (enumeration l ts) z f e = go (translated (symbols x) ts z) e
+  where
+    go : (o : Option ℤ) → onSome (fitted l) (untranslated l) o .kind ≡ 0 → o ≡ some (standsFor (enumeration l ts) (onSome (fitted l) (untranslated l) o .raw))
+    go none d = let no : _≡_ {A = ℕ} 3 0 = d in absurd (omega arith)
+    go (some w) d = ap (λ (v : ℤ). some v) (sym (fitted-back (l .signed) (l .precision) w (f .base .some) d))
+
+-- a symbol's number is in range: an enum raises kind 3 or nothing
+listed-in-range : (l : Layout) (ss : List Symbol) (x : List ℕ) (z : ℤ) → Symbols l ss → numberOf x ss ≡ some z → fitted l z .kind ≡ 0
+unfolding numberOf
+listed-in-range l [] x z f e = nothing e
+listed-in-range l (s ∷ ss) x z f e = go (same x (s .name)) e (λ g. listed-in-range l ss x z (f .1) g)
+  where
+    go : (t : Bool) → cond t (some (s .number)) (numberOf x ss) ≡ some z → (numberOf x ss ≡ some z → fitted l z .kind ≡ 0) → fitted l z .kind ≡ 0
+    go true g next =
+        let i : s .number ≡ z = cc in
+        rw (← i) (f .0 .in-range)
+    go false g next = next g
+
+pub enum-kind : (x : Leaf) (l : Layout) (ts : List Symbol) (z : ℤ) → WellFormedLeaf (enumeration l ts) → (converted x (enumeration l ts) z .kind ≡ 3) ⊎ (converted x (enumeration l ts) z .kind ≡ 0)
+enum-kind x l ts z f = go (symbolOf z (symbols x))
+  where
+    at : (y : List ℕ) (o : Option ℤ) → numberOf y ts ≡ o → (onSome (fitted l) (untranslated l) o .kind ≡ 3) ⊎ (onSome (fitted l) (untranslated l) o .kind ≡ 0)
+    at y none q = inl refl
+    at y (some w) q = inr (listed-in-range l ts y w (f .symbols) q)
+
+    go : (o : Option (List ℕ)) → (onSome (fitted l) (untranslated l) (onSome (λ y. numberOf y ts) none o) .kind ≡ 3) ⊎ (onSome (fitted l) (untranslated l) (onSome (λ y. numberOf y ts) none o) .kind ≡ 0)
+    go none = inl refl
+    go (some y) = at y (numberOf y ts) refl
+
+-- ---- what is read is in range
+
+pub InRange : Leaf → ℤ → Type 0
+InRange x z = fitted (layoutOf x) z .kind ≡ 0
+
+pub read-in-range : (x : Leaf) (i : ℕ) (r : List ℕ) → WellFormedLeaf x → InRange x (numberIn x i r)
+unfolding InRange
+read-in-range x i r f =
+    ap (λ (t : Fitted). t .kind)
+    (bits-back (layoutOf x .signed) (layoutOf x .precision) (rawAt (layoutOf x) i r) (valid x f .some) (mod-lt _ (pow-pos (layoutOf x .precision))))
+
+-- ---- there and back
+
+-- the number w that z became raises nothing on the way back, and becomes z
+pub record Returns (x y : Leaf) (z w : ℤ) : Type 0 where
+  pub quiet : converted y x w .kind ≡ 0
+  pub same : standsFor x (converted y x w .raw) ≡ z
+
+plain-back : (l k : Layout) (z : ℤ) → Valid l → Valid k → fitted l z .kind ≡ 0 → fitted k z .kind ≡ 0
+    → let w = valued (k .signed) (k .precision) (fitted k z .raw) in (fitted l w .kind ≡ 0) × (valued (l .signed) (l .precision) (fitted l w .raw) ≡ z)
+plain-back l k z f g h e =
+    let i : valued (k .signed) (k .precision) (fitted k z .raw) ≡ z = fitted-back (k .signed) (k .precision) z (g .some) e in
+    rw i (h, fitted-back (l .signed) (l .precision) z (f .some) h)
+
+pub leaf-back : (x y : Leaf) (z : ℤ) → WellFormedLeaf x → WellFormedLeaf y → leafPath x y ≡ true → InRange x z → converted x y z .kind ≡ 0
+    → Returns x y z (standsFor y (converted x y z .raw))
+unfolding InRange
+leaf-back (atomic l) (atomic k) z f g c h e =
+    let t = plain-back l k z f g h e in
+    record { quiet = t .0; same = t .1 }
+leaf-back (atomic l) (enumeration k ts) z f g c h e = absurd (false≢true c)
+leaf-back (enumeration l ss) (atomic k) z f g c h e = absurd (false≢true c)
+leaf-back (enumeration l ss) (enumeration k ts) z f g c h e = go (translated ss ts z) refl e
+  where
+    go : (o : Option ℤ) → translated ss ts z ≡ o → onSome (fitted k) (untranslated k) o .kind ≡ 0
+        → Returns (enumeration l ss) (enumeration k ts) z (standsFor (enumeration k ts) (onSome (fitted k) (untranslated k) (translated ss ts z) .raw))
+    go none q d = let no : _≡_ {A = ℕ} 3 0 = d in absurd (omega arith)
+    go (some w) q d =
+        let i : valued (k .signed) (k .precision) (fitted k w .raw) ≡ w = fitted-back (k .signed) (k .precision) w (g .base .some) d in
+        let j : translated ts ss w ≡ some z = translated-back l k ss ts z w (f .symbols) (g .symbols) q in
+        subst (Returns (enumeration l ss) (enumeration k ts) z) (sym (ap (λ (o : Option ℤ). standsFor (enumeration k ts) (onSome (fitted k) (untranslated k) o .raw)) q ∙ i))
+        (record { quiet = ap (λ (o : Option ℤ). onSome (fitted l) (untranslated l) o .kind) j ∙ h; same = ap (λ (o : Option ℤ). standsFor (enumeration l ss) (onSome (fitted l) (untranslated l) o .raw)) j ∙ fitted-back (l .signed) (l .precision) z (f .base .some) h })

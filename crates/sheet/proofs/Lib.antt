@@ -1,0 +1,2 @@
+pub mod ReadWellFormed
+pub mod FirstFault
