@@ -3,3 +3,4 @@ pub mod Arrival
 pub mod Record
 pub mod Records
 pub mod Matched
+pub mod Plan

@@ -18,7 +18,8 @@ use Rattle.layout.specs.declared.Pad.{Pad}
 use Rattle.layout.specs.declared.Pad.the-variants.{Zero, One, Keep}
 use Rattle.layout.specs.declared.Layout.{Layout}
 use Rattle.number.specs.Parts.{signedBy}
-use Rattle.datatype.specs.Datatype.{Symbol, Leaf, Datatype, Members, upToZero}
+use Rattle.datatype.specs.Datatype.{Symbol, Leaf, Datatype, Members}
+pub use Rattle.datatype.specs.Datatype.{upToZero}
 use Rattle.datatype.specs.Datatype.Leaf.{atomic, enumeration}
 use Rattle.datatype.specs.Datatype.Datatype.{leaf, compound, array}
 use Rattle.datatype.specs.Datatype.Members.{empty, member}

@@ -3,3 +3,4 @@ pub mod Places
 pub mod Scans
 pub mod Numbers
 pub mod Decimals
+pub mod Answers

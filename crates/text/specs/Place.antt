@@ -86,7 +86,7 @@ asWhole none e = whole.Fault
 unfoldable pub wholeAt : List ℕ → ℕ → Whole
 wholeAt s at = asWhole (enumNumber (fieldAt s at)) (fieldEnd s at)
 
--- a number that is at most m
+-- what the code's own reader of decimal numbers answers: a number that is at most m
 abbrev pub upTo : ℕ → Option ℕ → Option ℕ
 upTo m o = o >>= λ n. when (leb n m) n
 

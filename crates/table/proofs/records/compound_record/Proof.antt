@@ -1,0 +1,11 @@
+-- `table::records::compound_record` meets its contract. Assumes nothing.
+use Rattle.table.specs.Records.{compoundRecord}
+use Rattle.table.proofs.records.compound_record.Statement.{statement}
+use Rattle.table.proofs.records.compound_record.Tie as tie
+
+returns : tie.Need-returns
+unfolding compoundRecord
+returns c = cc
+
+pub compound-record-spec : {M : Type 1} → statement M
+compound-record-spec = tie.close (tie.spec returns)

@@ -1,0 +1,33 @@
+-- `table::store::put_row` meets its contract. Assumes nothing.
+use Prim.Native.Nat.{ℕ, _+_, _*_}
+use mathlib.Core.Path.{_≡_, ap, _∙_}
+use lib.ListN.{length}
+use lib.Seq.{paste}
+use borrow.Author.Needs.{needs}
+use Rattle.table.proofs.store.put_row.Statement.{statement}
+use Rattle.table.proofs.store.put_row.Tie as tie
+
+mul-put : tie.Need-mul-put
+mul-put c = search needs
+
+add-put : tie.Need-add-put
+add-put c = search needs
+
+slice-aggregate-put : tie.Need-slice-aggregate-put
+slice-aggregate-put c = search needs
+
+put-requires : tie.Need-put-requires
+put-requires c κs = search needs
+
+same-length : tie.Need-same-length
+same-length c = search needs
+
+returns : tie.Need-returns
+returns c =
+    let a = c .before .before .before .before .before .before .args in
+    let e : length (a .t3) ≡ 8 = search needs in
+    c .before .before .put .ensures ∙ ap (λ (k : ℕ). paste (a .w .now) (1024 + 8 * a .j) (a .t3) k) e
+
+pub put-row-spec : {M : Type 1} → statement M
+put-row-spec =
+    tie.close (tie.spec mul-put add-put slice-aggregate-put put-requires same-length returns)
