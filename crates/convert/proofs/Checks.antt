@@ -120,7 +120,8 @@ require-early : (t : Bool) (a : Answer) (c : Checked) → Early (refused a) → 
 require-early true a c h g = g
 require-early false a c h g = h
 
-sheet-early : (x : Sheet) (a : ℕ → Answer) (f : Datatype → Checked) → ((k : ℕ) → Early (refused (a k))) → ((T : Datatype) → Early (f T)) → Early (withSheet x a f)
+sheet-early : (x : Sheet) (a : ℕ → Answer) (f : Datatype → Checked) → ((k : ℕ) → Early (refused (a k))) → ((T : Datatype) → Early (f T))
+    → Early (withSheet x a f)
 sheet-early (ofType T) a f h g = g T
 sheet-early (faultyAt k) a f h g = h k
 

@@ -59,7 +59,8 @@ module _ (S D : Datatype) where
       at (firstRaising S D (fs i) 0 (size D)) refl e (λ h g. stop-first fs n (suc i) k r b t (omega arith) h g)
     where
       at : (o : Option ℕ) → firstRaising S D (fs i) 0 (size D) ≡ o → onSome (λ c. Stop i c (kindAt S D (fs i) c)) (stopFrom S D fs (suc i) k) o ≡ Stop r b t
-          → (((j : ℕ) → j < suc i → raisedBelow S D (fs j) (size D) ≡ 0) → stopFrom S D fs (suc i) k ≡ Stop r b t → FirstException S D n fs r b t) → FirstException S D n fs r b t
+          → (((j : ℕ) → j < suc i → raisedBelow S D (fs j) (size D) ≡ 0) → stopFrom S D fs (suc i) k ≡ Stop r b t → FirstException S D n fs r b t)
+          → FirstException S D n fs r b t
       at none q g next =
           next
           (λ j l. ⊎-elim (λ (x : j ≡ i). rw x (all-quiet S D (fs i) (size D) (λ c m. first-none S D (fs i) 0 (size D) q c (omega arith) (omega arith))))
@@ -71,7 +72,14 @@ module _ (S D : Datatype) where
           let y : c ≡ b = cc in
           let z : kindAt S D (fs i) c ≡ t = cc in
           rw (← x, ← y, ← z)
-          (record { in-records = omega arith; in-bytes = omega (arith, h .below); kind = refl; raises = h .raises; no-earlier-record = before; no-lower-byte = λ d l. h .none-lower d (omega arith) l })
+          (record {
+            in-records = omega arith;
+            in-bytes = omega (arith, h .below);
+            kind = refl;
+            raises = h .raises;
+            no-earlier-record = before;
+            no-lower-byte = λ d l. h .none-lower d (omega arith) l;
+          })
 
   pub handled-first : (h n : ℕ) (fs : Readings) (i b k : ℕ) → h ≤ 1 → handled h S D n fs ≡ Stop i b k → (h ≡ 1) × FirstException S D n fs i b k
   handled-first zero n fs i b k l e = no-stop (sym e)

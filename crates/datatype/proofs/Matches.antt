@@ -29,7 +29,8 @@ use Rattle.datatype.proofs.Ways.Way.{here, inside, element}
 -- ---- paths
 
 -- every pair of members of one name has a path
-paths-found : (ss ms : Members) → pathsTo ss ms ≡ true → (n : List ℕ) {p o : ℕ} {S T : Datatype} → memberNamed n ss ≡ found p S → memberNamed n ms ≡ found o T → hasPath S T ≡ true
+paths-found : (ss ms : Members) → pathsTo ss ms ≡ true → (n : List ℕ) {p o : ℕ} {S T : Datatype} → memberNamed n ss ≡ found p S → memberNamed n ms ≡ found o T
+    → hasPath S T ≡ true
 unfolding memberNamed hasPath
 paths-found ss empty e n i j = not-found j
 paths-found ss (member x q X ms) e n {p} {o} {S} {T} i j =
@@ -65,7 +66,8 @@ leaf-back (atomic l) (enumeration k ts) e = absurd (false≢true e)
 leaf-back (enumeration l ss) (atomic k) e = absurd (false≢true e)
 leaf-back (enumeration l ss) (enumeration k ts) e = refl
 
-either : (n x : List ℕ) (q o : ℕ) (X T : Datatype) (ms : Members) (S : Datatype) → (hasPath S X ≡ true → hasPath X S ≡ true) → (memberNamed n ms ≡ found o T → hasPath T S ≡ true)
+either : (n x : List ℕ) (q o : ℕ) (X T : Datatype) (ms : Members) (S : Datatype) → (hasPath S X ≡ true → hasPath X S ≡ true)
+    → (memberNamed n ms ≡ found o T → hasPath T S ≡ true)
     → hasPath S T ≡ true → ((n ≡ x) × (found q X ≡ found o T)) ⊎ (memberNamed n ms ≡ found o T) → hasPath T S ≡ true
 either n x q o X T ms S first next e (inl f) = subst (λ (U : Datatype). hasPath S U ≡ true → hasPath U S ≡ true) (same-type (f .1)) first e
 either n x q o X T ms S first next e (inr f) = next f
@@ -89,7 +91,8 @@ mutual
       let h : (eqb m n ≡ true) × (hasPath S T ≡ true) = and-true (eqb m n) (hasPath S T) e in
       both (eqb n m) (hasPath T S) (eq-eqb n m (sym (eqb-true m n (h .0)))) (back T S (f .1) (g .1) (h .1))
 
-  backs : (ms : Members) (w : ℕ) → WellFormedIn w ms → (n : List ℕ) (o : ℕ) (T : Datatype) → memberNamed n ms ≡ found o T → (S : Datatype) → WellFormed S → hasPath S T ≡ true → hasPath T S ≡ true
+  backs : (ms : Members) (w : ℕ) → WellFormedIn w ms → (n : List ℕ) (o : ℕ) (T : Datatype) → memberNamed n ms ≡ found o T → (S : Datatype) → WellFormed S
+      → hasPath S T ≡ true → hasPath T S ≡ true
   backs empty w g n o T j S f e = not-found j
   backs (member x q X ms) w g n o T j S f e =
       either n x q o X T ms S (λ h. back X S f (g .1) h) (λ i. backs ms w (g .2) n o T i S f e) e (found-cases n x q o X T ms j)

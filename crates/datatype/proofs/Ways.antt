@@ -44,7 +44,8 @@ not-found e = let z : _≡_ {A = ℕ} 0 1 = cc in absurd (omega arith)
 -- ---- members by name
 
 -- a member found behind another is found, for the names differ
-pub found-later : (n x : List ℕ) (o p : ℕ) (T U : Datatype) (ms : Members) → memberNamed x ms ≡ missing → memberNamed n ms ≡ found p U → memberNamed n (member x o T ms) ≡ found p U
+pub found-later : (n x : List ℕ) (o p : ℕ) (T U : Datatype) (ms : Members) → memberNamed x ms ≡ missing → memberNamed n ms ≡ found p U
+    → memberNamed n (member x o T ms) ≡ found p U
 unfolding memberNamed
 found-later n x o p T U ms once e = go (same n x) refl
   where
@@ -84,19 +85,22 @@ apart-found o w (member y q X ms) n {p} {U} h e = go (apart-found o w ms n (h .1
     go later (inr f) = later f
 
 -- a member that is found lies inside, and its type is formed
-pub formed-found : (z : ℕ) (ms : Members) (n : List ℕ) {o : ℕ} {T : Datatype} → WellFormedIn z ms → memberNamed n ms ≡ found o T → (o + size T ≤ z) × WellFormed T
+pub formed-found : (z : ℕ) (ms : Members) (n : List ℕ) {o : ℕ} {T : Datatype} → WellFormedIn z ms → memberNamed n ms ≡ found o T
+    → (o + size T ≤ z) × WellFormed T
 unfolding memberNamed
 formed-found z empty n h e = not-found e
 formed-found z (member y q X ms) n {o} {T} h e = go (formed-found z ms n (h .2)) (found-cases n y q o X T ms e)
   where
-    go : (memberNamed n ms ≡ found o T → (o + size T ≤ z) × WellFormed T) → ((n ≡ y) × (found q X ≡ found o T)) ⊎ (memberNamed n ms ≡ found o T) → (o + size T ≤ z) × WellFormed T
+    go : (memberNamed n ms ≡ found o T → (o + size T ≤ z) × WellFormed T) → ((n ≡ y) × (found q X ≡ found o T)) ⊎ (memberNamed n ms ≡ found o T)
+        → (o + size T ≤ z) × WellFormed T
     go later (inl f) = subst₂ (λ (s : ℕ) (Y : Datatype). (s + size Y ≤ z) × WellFormed Y) (same-at (f .1)) (same-type (f .1)) (h .0 .inside, h .1)
     go later (inr f) = later f
 
 -- ---- what a walk by bytes meets: G asks each member in turn whether it holds the byte, and F is what it asks the member then
 module _ {A : Type 0} (G : Members → ℕ → A) (F : List ℕ → Datatype → ℕ → A)
     (step : (x : List ℕ) (o : ℕ) (T : Datatype) (ms : Members) (b : ℕ) → G (member x o T ms) b ≡ cond (within o (size T) b) (F x T (b - o)) (G ms b)) where
-  reached : (z : ℕ) (ms : Members) (n : List ℕ) {o : ℕ} {T : Datatype} → WellFormedIn z ms → memberNamed n ms ≡ found o T → (b : ℕ) → b < size T → G ms (o + b) ≡ F n T b
+  reached : (z : ℕ) (ms : Members) (n : List ℕ) {o : ℕ} {T : Datatype} → WellFormedIn z ms → memberNamed n ms ≡ found o T → (b : ℕ) → b < size T
+      → G ms (o + b) ≡ F n T b
   unfolding memberNamed
   reached z empty n h e b l = not-found e
   reached z (member y q X ms) n {o} {T} h e b l = step y q X ms (o + b) ∙ go (reached z ms n (h .2)) (found-cases n y q o X T ms e)
@@ -204,7 +208,8 @@ array-way T S z w es ds {a} {b} {x} {y} sized down e = go (eqb (elements es) (el
     go : (s t : Bool) → eqb (elements es) (elements ds) ≡ s → ltb b w ≡ t
         → cond (s && t) (further (b / size T * size S) (matchAt S T (b % size T))) unmatched ≡ matched a x y → Way (array z es S) (array w ds T) a b x y
     go true true p q g =
-        let r : (c : ℕ) × (matchAt S T (b % size T) ≡ matched c x y) × (b / size T * size S + c ≡ a) = further-back (b / size T * size S) (matchAt S T (b % size T)) g in
+        let r : (c : ℕ) × (matchAt S T (b % size T) ≡ matched c x y) × (b / size T * size S + c ≡ a) =
+        further-back (b / size T * size S) (matchAt S T (b % size T)) g in
         placed (r .2) (div-add-mod' b (size T))
         (element (b / size T) (eqb-true (elements es) (elements ds) p) (element-of w b ds T sized q) (down (r .0) (b % size T) (r .1)))
     go true false p q g = no-match g
@@ -222,9 +227,11 @@ mutual
   match-way (array w ds T) (compound z ss) f e = no-match e
   match-way (array w ds T) (array z es S) f e = array-way T S z w es ds (f .0) (λ c d g. match-way T S {a = c} {b = d} (f .1) g) e
 
-  members-way : (ms ss : Members) (z w : ℕ) {a b : ℕ} {x y : Leaf} → WellFormedIn w ms → matchIn ss ms b ≡ matched a x y → Way (compound z ss) (compound w ms) a b x y
+  members-way : (ms ss : Members) (z w : ℕ) {a b : ℕ} {x y : Leaf} → WellFormedIn w ms → matchIn ss ms b ≡ matched a x y
+      → Way (compound z ss) (compound w ms) a b x y
   members-way empty ss z w f e = no-match e
-  members-way (member n o T ms) ss z w f e = member-way n o T ms ss z w (f .0 .name-once) (λ S c d g. match-way T S {a = c} {b = d} (f .1) g) (λ g. members-way ms ss z w (f .2) g) e
+  members-way (member n o T ms) ss z w f e =
+      member-way n o T ms ss z w (f .0 .name-once) (λ S c d g. match-way T S {a = c} {b = d} (f .1) g) (λ g. members-way ms ss z w (f .2) g) e
 
 -- ---- from a way to its match
 

@@ -1,1 +1,2 @@
 pub mod Exercises
+pub mod Promises

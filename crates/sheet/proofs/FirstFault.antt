@@ -149,7 +149,8 @@ line-read : (n : ℕ) (s t : SoFar) (line rest : List ℕ) → Unbroken line →
 unfolding linesFrom
 line-read n s t line rest u j = rw (split-line line rest u, some-piece (parted rest), j)
 
-line-refused : (n : ℕ) (s : SoFar) (line rest : List ℕ) → Unbroken line → judge s line ≡ none → linesFrom n s (split newline (line ++ newline ∷ rest)) ≡ faulty n
+line-refused : (n : ℕ) (s : SoFar) (line rest : List ℕ) → Unbroken line → judge s line ≡ none
+    → linesFrom n s (split newline (line ++ newline ∷ rest)) ≡ faulty n
 unfolding linesFrom
 line-refused n s line rest u j = rw (split-line line rest u, some-piece (parted rest), j)
 

@@ -13,6 +13,7 @@ use borrow.Author.Tests.{leb-true, eqb-true}
 use Rattle.layout.specs.declared.Class.{Class}
 use Rattle.layout.specs.declared.Class.the-variants.{Int, Bits}
 use Rattle.layout.specs.declared.Layout.{Layout}
+use Rattle.layout.proofs.Valid.{facts}
 use Rattle.layout.specs.Layout.{maySign, valid, Valid}
 use Rattle.layout.specs.Setters.{isInt}
 use Rattle.number.specs.Number.{fitted}
@@ -59,25 +60,6 @@ none-there none e = refl
 none-there (some a) e = absurd (false≢true e)
 
 -- ---- one type after another
-
-facts : (l : Layout) → valid l ≡ true → Valid l
-facts l e =
-    let z : ℕ = l .size .0 in
-    let p : ℕ = l .precision in
-    let o : ℕ = l .offset .0 in
-    let sign = and-true (leb 1 z && leb z 8 && leb 1 p && leb p 64 && leb (o + p) (8 * z)) (maySign (l .class) (l .signed)) e in
-    let inside = and-true (leb 1 z && leb z 8 && leb 1 p && leb p 64) (leb (o + p) (8 * z)) (sign .0) in
-    let most = and-true (leb 1 z && leb z 8 && leb 1 p) (leb p 64) (inside .0) in
-    let some = and-true (leb 1 z && leb z 8) (leb 1 p) (most .0) in
-    let sized = and-true (leb 1 z) (leb z 8) (some .0) in
-    record {
-      some-bytes = leb-true 1 z (sized .0);
-      sized = leb-true z 8 (sized .1);
-      some = leb-true 1 p (some .1);
-      most = leb-true p 64 (most .1);
-      inside = leb-true (o + p) (8 * z) (inside .1);
-      sign = sign .1;
-    }
 
 -- a type that is named by its number is one of the types before
 numbered : (k : ℕ) (ts : List Datatype) {T : Datatype} → EachWellFormed ts → typeNumbered k ts ≡ some T → WellFormed T
@@ -241,7 +223,8 @@ judge-keeps s text w e =
 not-accepted : {A : Type 0} {k : ℕ} {t : SoFar} → faulty k ≡ accepted t → A
 not-accepted e = let z : _≡_ {A = ℕ} 0 1 = cc in absurd (omega arith)
 
-lines-keep : (k : ℕ) (s : SoFar) (pieces : List (List ℕ)) {t : SoFar} → EachWellFormed (s .types) → linesFrom k s pieces ≡ accepted t → EachWellFormed (t .types)
+lines-keep : (k : ℕ) (s : SoFar) (pieces : List (List ℕ)) {t : SoFar} → EachWellFormed (s .types) → linesFrom k s pieces ≡ accepted t
+    → EachWellFormed (t .types)
 unfolding linesFrom
 lines-keep k s [] w e = not-accepted e
 lines-keep k s (piece ∷ []) {t} w e = go (isNil piece && not (isNil (s .types))) e
