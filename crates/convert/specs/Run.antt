@@ -61,17 +61,23 @@ abbrev pub hasRoom : Form → ℕ → ℕ → ℕ → ℕ → ℕ → Bool
 hasRoom copying n S D source background = leb (n * S) source && leb (n * D) background
 hasRoom inPlace n S D buffer background = leb (n * max S D) buffer && leb (n * D) background
 
--- the two sheets by their texts, the buffers and the table by their lengths
-unfoldable pub checksOf : Form → ℕ → List ℕ → List ℕ → ℕ → ℕ → ℕ → ℕ → Checked
-checksOf form handling ss ds n source background table =
-    require (leb handling 1) Handling
-    (require (leb 8192 table) Table
-    (withSheet (sheetOf ss) Source
-    (λ S. withSheet (sheetOf ds) Destination
-    (λ D. require (hasPath S D) Path
+-- checks 5 to 7: two types, and the buffers by their lengths
+abbrev pub typeChecks : Form → ℕ → ℕ → ℕ → Datatype → Datatype → Checked
+typeChecks form n source background S D =
+    require (hasPath S D) Path
     (require (leb n 65536) Count
     (require (hasRoom form n (size S) (size D) source background) Room
-    (passed S D)))))))
+    (passed S D)))
+
+-- checks 3 to 7: two sheets by their texts
+abbrev pub sheetChecks : Form → List ℕ → List ℕ → ℕ → ℕ → ℕ → Checked
+sheetChecks form ss ds n source background =
+    withSheet (sheetOf ss) Source (λ S. withSheet (sheetOf ds) Destination (typeChecks form n source background S))
+
+-- all checks before STOP; the table by its length
+unfoldable pub checksOf : Form → ℕ → List ℕ → List ℕ → ℕ → ℕ → ℕ → ℕ → Checked
+checksOf form handling ss ds n source background table =
+    require (leb handling 1) Handling (require (leb 8192 table) Table (sheetChecks form ss ds n source background))
 
 abbrev pub checks : Run → Checked
 checks r =
