@@ -6,3 +6,4 @@ mod Stores
 mod Frames
 pub mod Keeps
 pub mod Made
+pub mod Cleared

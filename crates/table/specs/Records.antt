@@ -1,8 +1,8 @@
 -- The words of each record, as the code makes them. What each decodes to is proved in proofs/Made.antt.
 use mathlib.Core.Bool.{Bool, true, false}
 use mathlib.Core.List.{List, [], _∷_}
-use Prim.Native.Nat.{ℕ, _+_, _*_, _/_, _%_}
-use lib.ListN.{getD, set}
+use Prim.Native.Nat.{ℕ, _+_, _-_, _*_, _/_, _%_, _≤_}
+use lib.ListN.{getD, set, replicate}
 use lib.Seq.{paste}
 use Rattle.bits.specs.declared.Order.{Order}
 use Rattle.bits.specs.declared.Order.the-variants.{LE, BE}
@@ -11,7 +11,7 @@ use Rattle.layout.specs.declared.Class.the-variants.{Int, Bits}
 use Rattle.layout.specs.declared.Pad.{Pad}
 use Rattle.layout.specs.declared.Pad.the-variants.{Zero, One, Keep}
 use Rattle.layout.specs.declared.Layout.{Layout}
-use Rattle.table.specs.Table.{rowsWord}
+use Rattle.table.specs.Table.{firstWord, rowsWord}
 
 abbrev pub orderCode : Order → ℕ
 orderCode LE = 0
@@ -59,3 +59,11 @@ memberRecord start len offset kind = start ∷ len ∷ offset ∷ kind ∷ 0 ∷
 -- w with the record r of row j, and one row more of type i
 unfoldable pub rowAdded : List ℕ → ℕ → ℕ → List ℕ → List ℕ
 rowAdded w i j r = set (paste w (1024 + 8 * j) r 8) (16 * i + 10) (rowsWord w i + 1)
+
+-- w without the records of type n and of all behind it
+unfoldable pub typesCleared : List ℕ → ℕ → List ℕ
+typesCleared w n = paste w (16 * n) (replicate (1024 - 16 * n) 0) (1024 - 16 * n)
+
+-- the rows of each of the 64 types are among the 256
+abbrev pub RowsInside : List ℕ → Type 0
+RowsInside w = (i : ℕ) → firstWord w i + rowsWord w i ≤ 256

@@ -1,10 +1,11 @@
 // Records stored in the table.
 ghost use mathlib.Core.Path.{_≡_};
 ghost use Prim.Native.Nat.{_+_, _*_, _<_, _≤_};
-ghost use lib.ListN.{length, set};
+ghost use mathlib.Core.List.{_++_};
+ghost use lib.ListN.{length, set, drop, replicate};
 ghost use lib.Seq.{paste};
 ghost use Rattle.table.specs.Table.{rowsWord};
-ghost use Rattle.table.specs.Records.{rowAdded};
+ghost use Rattle.table.specs.Records.{rowAdded, typesCleared};
 use crate::read::type_word;
 
 // The words of r from word k on.
@@ -53,4 +54,30 @@ pub fn add_row(w: &mut [u32], i: usize, j: usize, r: [u32; 8])
     let rows = type_word(w, i, 10) as u32;
     put_row(w, j, r);
     put_rows_word(w, i, rows + 1);
+}
+
+// The records of type n and of all behind it: there are no such types.
+pub fn clear_types(w: &mut [u32], n: usize)
+    requires { ⌜ (n ≤ 64) × (length (now w) ≡ 4096) ⌝ }
+    ensures { λ _. ⌜ now (w .exit) ≡ typesCleared (now (w .entry)) n ⌝ }
+{
+    let from = 16 * n;
+    let mut q: usize = 0;
+    while q < 1024 - from {
+        let at = from + q;
+        w[at] = 0;
+        q += 1;
+    }
+}
+
+// The first n words.
+pub fn clear(w: &mut [u32], n: usize)
+    requires { ⌜ n ≤ length (now w) ⌝ }
+    ensures { λ _. ⌜ now (w .exit) ≡ replicate n 0 ++ drop n (now (w .entry)) ⌝ }
+{
+    let mut i: usize = 0;
+    while i < n {
+        w[i] = 0;
+        i += 1;
+    }
 }
