@@ -1,2 +1,4 @@
 pub mod Sheet
 pub mod FirstFault
+pub mod Judged
+pub mod Steps

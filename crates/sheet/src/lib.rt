@@ -1,1 +1,17 @@
-// Layout sheets: definitions in specs/, no code yet.
+// Layout sheets: what a line adds to the types and rows in the working table.
+pub mod judge;
+pub mod member;
+pub mod product;
+pub mod value;
+
+// The types and rows after an accepted line; or the line is refused.
+pub enum Judged {
+    Accepted(u32, u32),
+    Refused,
+}
+
+// The bytes of an array, or more than are allowed.
+pub enum Total {
+    Bytes(u32),
+    TooMany,
+}

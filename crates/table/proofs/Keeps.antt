@@ -1,8 +1,8 @@
 -- What a table that holds types and rows decodes to, and what one record more keeps. Assumes nothing.
-use mathlib.Core.Path.{_≡_, refl, sym, ap, ap₂, _∙_, subst}
+use mathlib.Core.Path.{_≡_, refl, sym, ap₂, _∙_, subst}
 use mathlib.Core.Logic.{⊎-elim}
-use mathlib.Core.List.{List, [], _∷_}
-use Prim.Native.Nat.{ℕ, zero, suc, _+_, _*_, _<_, _≤_}
+use mathlib.Core.List.{List, _∷_}
+use Prim.Native.Nat.{ℕ, suc, _+_, _*_, _<_, _≤_}
 use native.Mathlib.Nat.{not-suc-le-zero, eq-or-lt-of-le, le-of-suc-le-suc, suc-inj, suc-ne-zero}
 use native.Mathlib.Numerals.{add-one}
 use native.Mathlib.Omega.{arith}
@@ -10,7 +10,7 @@ use lib.Dec.{lit<}
 use lib.ListN.{getD, length}
 use lib.Seq.{paste, length-paste}
 use Rattle.datatype.specs.Datatype.{Datatype}
-use Rattle.table.specs.Table.{typeWord, rowWord, classWord, baseWord, firstWord, rowsWord, memberTypeWord, node, decode, typeAt, typesAt, Low, Holds}
+use Rattle.table.specs.Table.{typeWord, classWord, firstWord, rowsWord, memberTypeWord, node, typeAt, typesAt, Low, Holds}
 use Rattle.table.specs.Records.{rowAdded}
 use Rattle.table.proofs.Frames.{Agree, node-cong, type-node, low-frame, decode-frame, types-frame}
 use Rattle.table.proofs.Stores.{type-made, type-before, type-rows, row-length, row-made, row-before, row-types, row-counted}

@@ -2,7 +2,7 @@
 use mathlib.Core.Path.{_≡_, refl}
 use mathlib.Core.List.{List}
 use mathlib.Core.Bool.{Bool, true, false, cond}
-use mathlib.Core.Option.{Option, none, some}
+use mathlib.Core.Option.{some}
 use Prim.Native.Nat.{ℕ, zero, suc, _+_, _-_, _*_, _<_, _≤_}
 use native.Mathlib.Nat.{not-suc-le-zero}
 use native.Mathlib.Numerals.{sub-one}
@@ -12,7 +12,7 @@ use Rattle.number.specs.Parts.{signedBy}
 use Rattle.datatype.specs.Datatype.{Datatype, same}
 use Rattle.datatype.specs.Symbols.{sameNumber, symbolOf, numberOf}
 use Rattle.datatype.specs.Paths.{memberNamed}
-use Rattle.datatype.specs.Paths.Lookup.{missing, found}
+use Rattle.datatype.specs.Paths.Lookup.{found}
 use Rattle.table.specs.declared.Found.the-variants.{At, Missing}
 use Rattle.table.specs.Table.{rowWord, flagOf, nameAt, valueAt, offsetWord, memberTypeWord, membersAt, symbolsAt}
 use Rattle.table.specs.Words.{Reads}

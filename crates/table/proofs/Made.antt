@@ -1,25 +1,25 @@
 -- What each record decodes to once it is stored. Assumes nothing.
-use mathlib.Core.Path.{_≡_, refl, sym, ap, ap₂, _∙_, subst}
+use mathlib.Core.Path.{_≡_, refl, sym, ap, _∙_}
 use mathlib.Core.List.{List, [], _∷_}
 use mathlib.Core.Bool.{Bool, true, false, cond}
-use Prim.Native.Nat.{ℕ, zero, suc, _+_, _*_, _/_, _%_, _<_, _≤_}
+use Prim.Native.Nat.{ℕ, suc, _+_, _*_, _/_, _%_, _<_}
 use native.Mathlib.Nat.{div-add-mod'}
 use native.Mathlib.Numerals.{add-one}
 use native.Mathlib.Omega.{arith}
 use borrow.Author.Tests.{ne-eqb}
 use lib.Dec.{eqb, lit<}
 use lib.ListN.{getD, length}
-use lib.Seq.{paste, ext-getD}
+use lib.Seq.{paste}
 use Rattle.layout.specs.declared.Class.{Class}
 use Rattle.layout.specs.declared.Class.the-variants.{Int, Bits}
 use Rattle.layout.specs.declared.Layout.{Layout}
 use Rattle.number.specs.Parts.{signedBy}
-use Rattle.datatype.specs.Datatype.{Symbol, Datatype, Members, size}
+use Rattle.datatype.specs.Datatype.{Datatype, size}
 use Rattle.datatype.specs.Datatype.Leaf.{atomic, enumeration}
 use Rattle.datatype.specs.Datatype.Datatype.{leaf, compound, array}
 use Rattle.datatype.specs.Datatype.Members.{empty, member}
-use Rattle.table.specs.Table.{typeWord, rowWord, classOf, flagOf, classWord, sizeWord, baseWord, firstWord, rowsWord, offsetWord, memberTypeWord, layoutAt, bytesAt, nameAt, valueAt, symbolsAt, membersAt, upToZero, dimensionsAt, node, Holds}
-use Rattle.table.specs.Records.{flagCode, classCode, layoutRecord, atomicRecord, enumRecord, compoundRecord, arrayRecord, valueRecord, memberRecord, rowAdded}
+use Rattle.table.specs.Table.{typeWord, classOf, flagOf, classWord, sizeWord, baseWord, firstWord, rowsWord, layoutAt, bytesAt, symbolsAt, membersAt, upToZero, dimensionsAt, node, Holds}
+use Rattle.table.specs.Records.{classCode, layoutRecord, atomicRecord, enumRecord, compoundRecord, arrayRecord, valueRecord, memberRecord, rowAdded}
 use Rattle.table.proofs.Coded.{order-back, pad-back, flag-back, class-back}
 use Rattle.table.proofs.Frames.{Agree, members-frame, symbols-frame}
 use Rattle.table.proofs.Stores.{type-made, row-made, row-before, row-types, row-counted}

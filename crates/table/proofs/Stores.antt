@@ -1,12 +1,12 @@
 -- The words of a table after a record was stored in it. Assumes nothing.
-use mathlib.Core.Path.{_≡_, refl, sym, ap, _∙_}
+use mathlib.Core.Path.{_≡_, sym, ap, _∙_}
 use mathlib.Core.List.{List, _++_}
 use mathlib.Core.Bool.{cond}
 use Prim.Native.Nat.{ℕ, _+_, _-_, _*_, _<_, _≤_}
 use native.Mathlib.Omega.{arith}
 use borrow.Author.Tests.{lt-ltb}
 use lib.Dec.{ltb}
-use lib.ListN.{getD, length, set, take, drop, length-set, List·getD-append}
+use lib.ListN.{getD, length, take, drop, length-set, List·getD-append}
 use lib.Seq.{paste, length-paste, length-paste-head, length-take-le, drop-paste, getD-take, getD-drop, getD-append-add, getD-set-same, getD-set-other}
 use Rattle.table.specs.Table.{typeWord, rowWord, rowsWord}
 use Rattle.table.specs.Records.{rowAdded}
