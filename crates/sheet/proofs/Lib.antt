@@ -7,3 +7,6 @@ mod Lines
 mod Apart
 mod Totals
 mod Ranges
+pub mod Turns
+pub mod Loop
+pub mod Read

@@ -147,7 +147,6 @@ member-formed x offset M (compound z ms) f w e =
 member-formed x offset M (array z ds T) f w e = nothing e
 
 each-some : (ds : List ℕ) → eachSome ds ≡ true → EachSome ds
-unfolding eachSome
 each-some [] e = tt
 each-some (d ∷ ds) e =
     let h = and-true (leb 1 d) (eachSome ds) e in

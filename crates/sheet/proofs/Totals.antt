@@ -25,7 +25,6 @@ few-dimensions (d ∷ ds) = go (few-dimensions ds) (eqb d 0)
     go ih false = omega arith
 
 pub each-dimension : (ds : List ℕ) → eachSome (upToZero ds) ≡ true
-unfolding eachSome
 each-dimension [] = refl
 each-dimension (d ∷ ds) = go (each-dimension ds) (eqb d 0) refl
   where

@@ -20,6 +20,7 @@ use Rattle.datatype.specs.Paths.{memberNamed, onFound}
 use Rattle.text.specs.Text.{newline, split}
 use Rattle.text.specs.Field.{when, _>>=_}
 use Rattle.line.specs.Line.{Line, lineOf}
+pub use Rattle.line.specs.Read.{eachPositive as eachSome}
 use Rattle.line.specs.Line.Line.{atomicLine, enumLine, valueLine, compoundLine, memberLine, arrayLine}
 
 -- what the lines before a line gave: the types, the newest first, and how many value and member lines there were
@@ -80,10 +81,6 @@ withMember x offset T (compound z ms) = when (mayPlace z ms x offset (size T)) (
 withMember x offset T (array z ds U) = none
 
 -- ---- arrays
-
-unfoldable pub eachSome : List ℕ → Bool
-eachSome [] = true
-eachSome (d ∷ ds) = leb 1 d && eachSome ds
 
 -- "An array has up to four dimensions, each at least 1; its size is their product times the base's size, at most 4,096."
 abbrev pub arrayOf : List ℕ → Datatype → Option Datatype

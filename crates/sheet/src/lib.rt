@@ -2,6 +2,7 @@
 pub mod judge;
 pub mod member;
 pub mod product;
+pub mod read;
 pub mod value;
 
 // The types and rows after an accepted line; or the line is refused.
@@ -14,4 +15,10 @@ pub enum Judged {
 pub enum Total {
     Bytes(u32),
     TooMany,
+}
+
+// A sheet's types and rows, which stand in the table; or its first faulty line.
+pub enum SheetRead {
+    Types(u32, u32),
+    Faulty(u32),
 }

@@ -1,0 +1,5 @@
+pub mod Columns
+pub mod Answers
+pub mod Readings
+pub mod Arrays
+pub mod FirstWords

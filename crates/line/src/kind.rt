@@ -1,0 +1,68 @@
+// The lines of an enum and a compound with their values and members, from behind their first word.
+ghost use Rattle.line.specs.Line.{enumLineOf, valueLineOf, compoundLineOf, memberLineOf};
+ghost use Rattle.line.specs.Read.{Reads, columnsReading, plainLine};
+use crate::Line;
+use crate::NameColumn;
+use crate::column::name_column;
+use crate::column::number_column;
+use crate::column::whole_column;
+use text::Field;
+use text::Whole;
+use text::is_newline;
+
+pub fn enum_line(s: &[u8], q: usize) -> Line
+    ensures { λ r. ⌜ Reads (now (s .entry)) (plainLine r) (columnsReading (now (s .entry)) q enumLineOf) ⌝ }
+{
+    let Field::Number(base, a) = number_column(s, q) else {
+        return Line::Fault;
+    };
+    if !is_newline(s, a) {
+        return Line::Fault;
+    }
+    Line::Enum(base, a + 1)
+}
+
+pub fn value_line(s: &[u8], q: usize) -> Line
+    ensures { λ r. ⌜ Reads (now (s .entry)) (plainLine r) (columnsReading (now (s .entry)) q valueLineOf) ⌝ }
+{
+    let NameColumn::Holds(start, end) = name_column(s, q) else {
+        return Line::Fault;
+    };
+    let Whole::Number(negative, distance, a) = whole_column(s, end) else {
+        return Line::Fault;
+    };
+    if !is_newline(s, a) {
+        return Line::Fault;
+    }
+    Line::Value(start, end, negative, distance, a + 1)
+}
+
+pub fn comp_line(s: &[u8], q: usize) -> Line
+    ensures { λ r. ⌜ Reads (now (s .entry)) (plainLine r) (columnsReading (now (s .entry)) q compoundLineOf) ⌝ }
+{
+    let Field::Number(size, a) = number_column(s, q) else {
+        return Line::Fault;
+    };
+    if !is_newline(s, a) {
+        return Line::Fault;
+    }
+    Line::Compound(size, a + 1)
+}
+
+pub fn member_line(s: &[u8], q: usize) -> Line
+    ensures { λ r. ⌜ Reads (now (s .entry)) (plainLine r) (columnsReading (now (s .entry)) q memberLineOf) ⌝ }
+{
+    let NameColumn::Holds(start, end) = name_column(s, q) else {
+        return Line::Fault;
+    };
+    let Field::Number(offset, a) = number_column(s, end) else {
+        return Line::Fault;
+    };
+    let Field::Number(kind, b) = number_column(s, a) else {
+        return Line::Fault;
+    };
+    if !is_newline(s, b) {
+        return Line::Fault;
+    }
+    Line::Member(start, end, offset, kind, b + 1)
+}
