@@ -9,4 +9,4 @@ mod Totals
 mod Ranges
 pub mod Turns
 pub mod Loop
-pub mod Read
+pub mod Types
