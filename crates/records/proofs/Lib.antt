@@ -4,3 +4,7 @@ pub mod FirstRaising
 pub mod ManyRecords
 pub mod Results
 pub mod Matched
+pub mod Plans
+pub mod LeafSteps
+pub mod Entries
+pub mod Translations

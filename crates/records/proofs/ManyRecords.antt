@@ -79,19 +79,15 @@ in-none S D (suc n) fs h = rw (in-none S D n fs (λ i l. h i (omega arith)), h n
 -- ---- what is made turns on the readings and the background alone
 
 pub agree-readings : (S D : Datatype) (n : ℕ) (p q : List ℕ) → Agree S D n p q → (i : ℕ) → i < n → readings S D p i ≡ readings S D q i
-agree-readings S D n p q h i l =
-    reading-by S D (recordAt (size S) i p) (recordAt (size S) i q)
-    (λ b a x y m. h (record { index = i; from = a; to = b; source = x; destination = y; in-records = l; match = m }))
+agree-readings S D n p q h i l = reading-by S D (recordAt (size S) i p) (recordAt (size S) i q) (λ b a x y m. h (record { index = i; from = a; to = b; source = x; destination = y; in-records = l; match = m }))
 
 pub same-exceptions : (S D : Datatype) (n : ℕ) (fs gs : Readings) → ((i : ℕ) → i < n → fs i ≡ gs i) → exceptions S D n fs ≡ exceptions S D n gs
 unfolding exceptions
 same-exceptions S D zero fs gs h = refl
 same-exceptions S D (suc n) fs gs h = rw (same-exceptions S D n fs gs (λ i l. h i (omega arith)), h n (le-refl (suc n)))
 
-pub same-converted : (S D : Datatype) (n : ℕ) (fs gs : Readings) (background background′ : List ℕ) → n * size D ≤ length background
-    → n * size D ≤ length background′
-    → take (n * size D) background ≡ take (n * size D) background′ → ((i : ℕ) → i < n → fs i ≡ gs i)
-    → convertedRecords S D n fs background ≡ convertedRecords S D n gs background′
+pub same-converted : (S D : Datatype) (n : ℕ) (fs gs : Readings) (background background′ : List ℕ) → n * size D ≤ length background → n * size D ≤ length background′
+    → take (n * size D) background ≡ take (n * size D) background′ → ((i : ℕ) → i < n → fs i ≡ gs i) → convertedRecords S D n fs background ≡ convertedRecords S D n gs background′
 same-converted S D n fs gs background background′ room room′ e h =
     joined-alike (convertedAt S D fs background) (convertedAt S D gs background′) n
     (λ i l. ap₂ (λ (f : Reading) (r : List ℕ). convertedRecord S D f r) (h i l) (same-record (size D) n i background background′ room room′ e l))
@@ -109,8 +105,7 @@ module _ (S D : Datatype) (fs : WellFormed S) (fd : WellFormed D) (n : ℕ) (rs 
   converted-at i t h = joined-at (convertedAt S D rs background) (size D) n i t converted-sized h
 
   -- record i of a buffer that begins with what was made
-  pub converted-in : (i : ℕ) (out : List ℕ) → take (n * size D) out ≡ convertedRecords S D n rs background → i < n
-      → recordAt (size D) i out ≡ convertedAt S D rs background i
+  pub converted-in : (i : ℕ) (out : List ℕ) → take (n * size D) out ≡ convertedRecords S D n rs background → i < n → recordAt (size D) i out ≡ convertedAt S D rs background i
   converted-in i out e h =
       ap (recordAt (size D) i) (sym (take-append-drop (n * size D) out) ∙ ap (λ (l : List ℕ). l ++ drop (n * size D) out) e) ∙ converted-at i (drop (n * size D) out) h
 
@@ -141,8 +136,7 @@ module _ (S D : Datatype) (fs : WellFormed S) (fd : WellFormed D) (path : hasPat
         (none-in S D n (readings S D source) quiet i h) (recordAt (size D) i out) (converted-in S D fs fd n (readings S D source) background room i out holds h))
 
     -- and brings every matched number back, over any background, into a buffer of any length
-    pub returns-same : (background′ : List ℕ) → n * size S ≤ length background′ → (res : List ℕ)
-        → take (n * size S) res ≡ convertedRecords D S n (readings D S out) background′ → Agree S D n res source
+    pub returns-same : (background′ : List ℕ) → n * size S ≤ length background′ → (res : List ℕ) → take (n * size S) res ≡ convertedRecords D S n (readings D S out) background′ → Agree S D n res source
     returns-same background′ room′ res held m =
         let i : ℕ = m .index in
         let h : i < n = m .in-records in

@@ -88,7 +88,7 @@ arrives x (enumeration l ts) z f e = go (translated (symbols x) ts z) e
     go (some w) d = ap (λ (v : ℤ). some v) (sym (fitted-back (l .signed) (l .precision) w (f .base .some) d))
 
 -- a symbol's number is in range: an enum raises kind 3 or nothing
-listed-in-range : (l : Layout) (ss : List Symbol) (x : List ℕ) (z : ℤ) → Symbols l ss → numberOf x ss ≡ some z → fitted l z .kind ≡ 0
+pub listed-in-range : (l : Layout) (ss : List Symbol) (x : List ℕ) (z : ℤ) → Symbols l ss → numberOf x ss ≡ some z → fitted l z .kind ≡ 0
 unfolding numberOf
 listed-in-range l [] x z f e = nothing e
 listed-in-range l (s ∷ ss) x z f e = go (same x (s .name)) e (λ g. listed-in-range l ss x z (f .1) g)
@@ -99,16 +99,14 @@ listed-in-range l (s ∷ ss) x z f e = go (same x (s .name)) e (λ g. listed-in-
         rw (← i) (f .0 .in-range)
     go false g next = next g
 
-pub enum-kind : (x : Leaf) (l : Layout) (ts : List Symbol) (z : ℤ) → WellFormedLeaf (enumeration l ts)
-    → (converted x (enumeration l ts) z .kind ≡ 3) ⊎ (converted x (enumeration l ts) z .kind ≡ 0)
+pub enum-kind : (x : Leaf) (l : Layout) (ts : List Symbol) (z : ℤ) → WellFormedLeaf (enumeration l ts) → (converted x (enumeration l ts) z .kind ≡ 3) ⊎ (converted x (enumeration l ts) z .kind ≡ 0)
 enum-kind x l ts z f = go (symbolOf z (symbols x))
   where
     at : (y : List ℕ) (o : Option ℤ) → numberOf y ts ≡ o → (onSome (fitted l) (untranslated l) o .kind ≡ 3) ⊎ (onSome (fitted l) (untranslated l) o .kind ≡ 0)
     at y none q = inl refl
     at y (some w) q = inr (listed-in-range l ts y w (f .symbols) q)
 
-    go : (o : Option (List ℕ))
-        → (onSome (fitted l) (untranslated l) (onSome (λ y. numberOf y ts) none o) .kind ≡ 3) ⊎ (onSome (fitted l) (untranslated l) (onSome (λ y. numberOf y ts) none o) .kind ≡ 0)
+    go : (o : Option (List ℕ)) → (onSome (fitted l) (untranslated l) (onSome (λ y. numberOf y ts) none o) .kind ≡ 3) ⊎ (onSome (fitted l) (untranslated l) (onSome (λ y. numberOf y ts) none o) .kind ≡ 0)
     go none = inl refl
     go (some y) = at y (numberOf y ts) refl
 
@@ -152,11 +150,5 @@ leaf-back (enumeration l ss) (enumeration k ts) z f g c h e = go (translated ss 
     go (some w) q d =
         let i : valued (k .signed) (k .precision) (fitted k w .raw) ≡ w = fitted-back (k .signed) (k .precision) w (g .base .some) d in
         let j : translated ts ss w ≡ some z = translated-back l k ss ts z w (f .symbols) (g .symbols) q in
-        subst (Returns (enumeration l ss) (enumeration k ts) z)
-        (sym (ap (λ (o : Option ℤ). standsFor (enumeration k ts) (onSome (fitted k) (untranslated k) o .raw)) q ∙ i))
-        (record {
-          quiet = ap (λ (o : Option ℤ). onSome (fitted l) (untranslated l) o .kind) j ∙ h;
-          same =
-              ap (λ (o : Option ℤ). standsFor (enumeration l ss) (onSome (fitted l) (untranslated l) o .raw)) j
-              ∙ fitted-back (l .signed) (l .precision) z (f .base .some) h;
-        })
+        subst (Returns (enumeration l ss) (enumeration k ts) z) (sym (ap (λ (o : Option ℤ). standsFor (enumeration k ts) (onSome (fitted k) (untranslated k) o .raw)) q ∙ i))
+        (record { quiet = ap (λ (o : Option ℤ). onSome (fitted l) (untranslated l) o .kind) j ∙ h; same = ap (λ (o : Option ℤ). standsFor (enumeration l ss) (onSome (fitted l) (untranslated l) o .raw)) j ∙ fitted-back (l .signed) (l .precision) z (f .base .some) h })

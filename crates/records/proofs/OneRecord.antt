@@ -88,10 +88,7 @@ module _ (S D : Datatype) (fs : WellFormed S) (fd : WellFormed D) (f : Reading) 
     -- what a write leaves in the leaf's bytes turns on those bytes alone
     write-alone : (r s : List ℕ) → length r ≡ size D → length s ≡ size D → place (layoutOf y) b r ≡ place (layoutOf y) b s
         → place (layoutOf y) b (stored (layoutOf y) b (converted x y z .raw) r) ≡ place (layoutOf y) b (stored (layoutOf y) b (converted x y z .raw) s)
-    write-alone r s h h′ q =
-        back r h
-        ∙ ap (λ (p : List ℕ). contained (layoutOf y .order) (leafSize y) (filled (layoutOf y) (container (layoutOf y .order) p) (converted x y z .raw))) q
-        ∙ sym (back s h′)
+    write-alone r s h h′ q = back r h ∙ ap (λ (p : List ℕ). contained (layoutOf y .order) (leafSize y) (filled (layoutOf y) (container (layoutOf y .order) p) (converted x y z .raw))) q ∙ sym (back s h′)
       where
         back : (t : List ℕ) → length t ≡ size D
             → place (layoutOf y) b (stored (layoutOf y) b (converted x y z .raw) t)
@@ -112,16 +109,16 @@ module _ (S D : Datatype) (fs : WellFormed S) (fd : WellFormed D) (f : Reading) 
         (eq-or-lt-of-le (le-of-suc-le-suc l))
 
     -- after the conversion the leaf's bytes are as if it alone had been written over the background
-    pub converted-place : (background : List ℕ) → length background ≡ size D
-        → place (layoutOf y) b (convertedRecord S D f background) ≡ place (layoutOf y) b (stored (layoutOf y) b (converted x y z .raw) background)
-    converted-place background h = written (size D) background h (starts b a x y m)
+    pub converted-place : (bg : List ℕ) → length bg ≡ size D
+        → place (layoutOf y) b (convertedRecord S D f bg) ≡ place (layoutOf y) b (stored (layoutOf y) b (converted x y z .raw) bg)
+    converted-place bg h = written (size D) bg h (starts b a x y m)
 
     -- so the leaf holds the number that z became
-    pub read-converted : (background : List ℕ) → length background ≡ size D → numberIn y b (convertedRecord S D f background) ≡ standsFor y (converted x y z .raw)
-    read-converted background h =
+    pub read-converted : (bg : List ℕ) → length bg ≡ size D → numberIn y b (convertedRecord S D f bg) ≡ standsFor y (converted x y z .raw)
+    read-converted bg h =
         let g = match-formed S D fs fd b a x y m .1 in
-        ap (λ (p : List ℕ). standsFor y (field (layoutOf y .offset .0) (layoutOf y .precision) (container (layoutOf y .order) p))) (converted-place background h)
-        ∙ ap (standsFor y) (raw-back (layoutOf y) b (converted x y z .raw) background (valid y g) (ends background h) (converted-lt x y z g))
+        ap (λ (p : List ℕ). standsFor y (field (layoutOf y .offset .0) (layoutOf y .precision) (container (layoutOf y .order) p))) (converted-place bg h)
+        ∙ ap (standsFor y) (raw-back (layoutOf y) b (converted x y z .raw) bg (valid y g) (ends bg h) (converted-lt x y z g))
 
 -- ---- exceptions
 
@@ -172,19 +169,19 @@ module _ (S D : Datatype) where
 
 module _ (S D : Datatype) (fs : WellFormed S) (fd : WellFormed D) (path : hasPath S D ≡ true) where
   -- a source record that raised nothing, and what was made of it
-  module _ (r background : List ℕ) (h : length background ≡ size D) (quiet : raisedBelow S D (reading S D r) (size D) ≡ 0) where
-    leaf-returns : (b a : ℕ) (x y : Leaf) → matchAt S D b ≡ matched a x y → Returns x y (numberIn x a r) (numberIn y b (convertedRecord S D (reading S D r) background))
+  module _ (r bg : List ℕ) (h : length bg ≡ size D) (quiet : raisedBelow S D (reading S D r) (size D) ≡ 0) where
+    leaf-returns : (b a : ℕ) (x y : Leaf) → matchAt S D b ≡ matched a x y → Returns x y (numberIn x a r) (numberIn y b (convertedRecord S D (reading S D r) bg))
     leaf-returns b a x y m =
         let g = match-formed S D fs fd b a x y m in
         let e : reading S D r b ≡ some (numberIn x a r) = reading-at S D r b a x y m in
         let k : converted x y (numberIn x a r) .kind ≡ 0 =
         sym (kind-at S D (reading S D r) b a x y (numberIn x a r) m e)
         ∙ none-raised S D (reading S D r) (size D) quiet b (starts S D fs fd (reading S D r) b a x y m) in
-        subst (Returns x y (numberIn x a r)) (sym (read-converted S D fs fd (reading S D r) b a x y (numberIn x a r) m e background h))
+        subst (Returns x y (numberIn x a r)) (sym (read-converted S D fs fd (reading S D r) b a x y (numberIn x a r) m e bg h))
         (leaf-back x y (numberIn x a r) (g .0) (g .1) (match-path S D fs fd path b a x y m) (read-in-range x a r (g .0)) k)
 
     -- going back raises nothing
-    pub back-quiet : (out : List ℕ) → out ≡ convertedRecord S D (reading S D r) background → raisedBelow D S (reading D S out) (size S) ≡ 0
+    pub back-quiet : (out : List ℕ) → out ≡ convertedRecord S D (reading S D r) bg → raisedBelow D S (reading D S out) (size S) ≡ 0
     back-quiet out o =
         all-quiet D S (reading D S out) (size S)
         (λ a l. kind-by D S (reading D S out) a
@@ -192,19 +189,19 @@ module _ (S D : Datatype) (fs : WellFormed S) (fd : WellFormed D) (path : hasPat
         ∙ rw o (leaf-returns b a x y (match-back D S fd fs a b y x m) .quiet)))
 
     -- and brings every matched number back
-    pub back-same : (out background′ : List ℕ) → out ≡ convertedRecord S D (reading S D r) background → length background′ ≡ size S
-        → (b a : ℕ) (x y : Leaf) → matchAt S D b ≡ matched a x y → numberIn x a (convertedRecord D S (reading D S out) background′) ≡ numberIn x a r
-    back-same out background′ o h′ b a x y m =
+    pub back-same : (out bg′ : List ℕ) → out ≡ convertedRecord S D (reading S D r) bg → length bg′ ≡ size S
+        → (b a : ℕ) (x y : Leaf) → matchAt S D b ≡ matched a x y → numberIn x a (convertedRecord D S (reading D S out) bg′) ≡ numberIn x a r
+    back-same out bg′ o h′ b a x y m =
         let n : matchAt D S a ≡ matched b y x = match-back S D fs fd b a x y m in
-        read-converted D S fd fs (reading D S out) a b y x (numberIn y b out) n (reading-at D S out a b y x n) background′ h′
+        read-converted D S fd fs (reading D S out) a b y x (numberIn y b out) n (reading-at D S out a b y x n) bg′ h′
         ∙ rw o (leaf-returns b a x y m .same)
 
   -- two records that raised nothing and became the same bytes have the same matched numbers
-  pub converted-apart : (r s background background′ : List ℕ) → length background ≡ size D → length background′ ≡ size D
+  pub converted-apart : (r s bg bg′ : List ℕ) → length bg ≡ size D → length bg′ ≡ size D
       → raisedBelow S D (reading S D r) (size D) ≡ 0 → raisedBelow S D (reading S D s) (size D) ≡ 0
-      → convertedRecord S D (reading S D r) background ≡ convertedRecord S D (reading S D s) background′
+      → convertedRecord S D (reading S D r) bg ≡ convertedRecord S D (reading S D s) bg′
       → (b a : ℕ) (x y : Leaf) → matchAt S D b ≡ matched a x y → numberIn x a r ≡ numberIn x a s
-  converted-apart r s background background′ h h′ q q′ e b a x y m =
-      sym (leaf-returns r background h q b a x y m .same)
+  converted-apart r s bg bg′ h h′ q q′ e b a x y m =
+      sym (leaf-returns r bg h q b a x y m .same)
       ∙ ap (λ (o : List ℕ). standsFor x (converted y x (numberIn y b o) .raw)) e
-      ∙ leaf-returns s background′ h′ q′ b a x y m .same
+      ∙ leaf-returns s bg′ h′ q′ b a x y m .same

@@ -4,3 +4,6 @@ pub mod Record
 pub mod Records
 pub mod Matched
 pub mod Plan
+pub mod PlanWords
+pub mod LeafSteps
+pub mod PlanEntries

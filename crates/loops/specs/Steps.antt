@@ -1,0 +1,19 @@
+-- What the functions inside this crate promise of one record. No meaning of document 01 stands here.
+use mathlib.Core.List.{List, _++_}
+use Prim.Native.Nat.{ℕ, _+_}
+use lib.ListN.{take, drop}
+use Rattle.datatype.specs.Datatype.{size}
+use Rattle.records.specs.Record.{reading, convertedRecord, raisedBelow}
+use Rattle.records.specs.PlanWords.{Job}
+
+-- l with r, d elements long, in the place of the d elements from at on
+abbrev pub put : ℕ → ℕ → List ℕ → List ℕ → List ℕ
+put at d r l = take at l ++ (r ++ drop (at + d) l)
+
+-- what the source record a becomes over the background b
+abbrev pub recordBy : {s d : ℕ} {plan : List ℕ} {n : ℕ} {ws wd to : List ℕ} → Job s d plan n ws wd to → List ℕ → List ℕ → List ℕ
+recordBy j a b = convertedRecord (j .source) (j .destination) (reading (j .source) (j .destination) a) b
+
+-- how many exceptions it raises
+abbrev pub raisedOf : {s d : ℕ} {plan : List ℕ} {n : ℕ} {ws wd to : List ℕ} → Job s d plan n ws wd to → List ℕ → ℕ
+raisedOf j a = raisedBelow (j .source) (j .destination) (reading (j .source) (j .destination) a) (size (j .destination))

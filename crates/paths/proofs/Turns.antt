@@ -1,0 +1,240 @@
+-- How the question for a path follows from the words of two types, level by level. Assumes nothing.
+use mathlib.Core.Path.{_≡_, refl, sym, ap, _∙_}
+use mathlib.Core.Bool.{Bool, true, false, _&&_}
+use mathlib.Core.List.{List}
+use Prim.Native.Nat.{ℕ, zero, suc, _+_, _-_, _≤_, _<_}
+use native.Mathlib.Nat.{not-suc-le-zero, pos-of-ne-zero}
+use native.Mathlib.Numerals.{sub-one}
+use native.Mathlib.Omega.{arith}
+use borrow.Author.Needs.{needs}
+use borrow.Author.Tests.{ne-eqb, eq-eqb}
+use lib.Dec.{eqb}
+use Rattle.layout.specs.declared.Class.{Class}
+use Rattle.layout.specs.declared.Class.the-variants.{Int, Bits}
+use Rattle.datatype.specs.Datatype.{Leaf, Datatype, Members}
+use Rattle.datatype.specs.Datatype.Leaf.{atomic, enumeration}
+use Rattle.datatype.specs.Datatype.Datatype.{leaf, compound, array}
+use Rattle.datatype.specs.Paths.{sameClass, leafPath, Lookup, onFound, hasPath, pathsTo}
+use Rattle.datatype.specs.WellFormed.{WellFormed, WellFormedIn}
+use Rattle.table.specs.declared.Found.{Found}
+use Rattle.table.specs.declared.Found.the-variants.{At, Missing}
+use Rattle.table.specs.Table.{sizeWord, baseWord, firstWord, rowsWord, memberTypeWord, nameAt, membersAt, node, decode}
+use Rattle.table.specs.Records.{classCode}
+use Rattle.table.specs.Words.{Reads}
+use Rattle.table.specs.Rows.{rowNamed, memberFound}
+use Rattle.table.proofs.Lookups.{member-named}
+use Rattle.paths.specs.declared.Turn.{Turn}
+use Rattle.paths.specs.declared.Turn.the-variants.{Answer, Bases, Lists}
+use Rattle.paths.specs.declared.Inner.{Inner}
+use Rattle.paths.specs.declared.Inner.the-variants.{Both, Neither}
+use Rattle.paths.specs.Steps.{Whole, kindAt, Counts, membersOfType, Turned, Turns, pathNamed, innerAfter, Entered, Inside}
+use Rattle.paths.proofs.Shapes.{leafKind, treeKind, tree-kind, compound-node, array-node, decode-step, whole, formed-compound, formed-array}
+use Rattle.paths.proofs.Rows.{named-formed, row-formed}
+
+-- ---- by kinds
+
+class-differ : (c d : Class) → (classCode d ≡ classCode c → ⊥) → sameClass c d ≡ false
+class-differ Int Int h = absurd (h refl)
+class-differ Int Bits h = refl
+class-differ Bits Int h = refl
+class-differ Bits Bits h = absurd (h refl)
+
+class-same : (c d : Class) → classCode d ≡ classCode c → sameClass c d ≡ true
+class-same Int Int e = refl
+class-same Int Bits e = absurd (omega arith)
+class-same Bits Int e = absurd (omega arith)
+class-same Bits Bits e = refl
+
+class-atomic : (c : Class) → classCode c ≡ 2 → ⊥
+class-atomic Int e = omega arith
+class-atomic Bits e = omega arith
+
+leaf-differ : (x y : Leaf) → (leafKind y ≡ leafKind x → ⊥) → leafPath x y ≡ false
+leaf-differ (atomic l) (atomic k) h = class-differ (l .class) (k .class) h
+leaf-differ (atomic l) (enumeration k ts) h = refl
+leaf-differ (enumeration l ss) (atomic k) h = refl
+leaf-differ (enumeration l ss) (enumeration k ts) h = absurd (h refl)
+
+leaf-same : (x y : Leaf) → leafKind y ≡ leafKind x → leafPath x y ≡ true
+leaf-same (atomic l) (atomic k) e = class-same (l .class) (k .class) e
+leaf-same (atomic l) (enumeration k ts) e = absurd (class-atomic (l .class) (sym e))
+leaf-same (enumeration l ss) (atomic k) e = absurd (class-atomic (k .class) e)
+leaf-same (enumeration l ss) (enumeration k ts) e = refl
+
+path-differ : (S T : Datatype) → (treeKind T ≡ treeKind S → ⊥) → hasPath S T ≡ false
+unfolding hasPath
+path-differ (leaf x) (leaf y) h = leaf-differ x y h
+path-differ (leaf x) (compound z ms) h = refl
+path-differ (leaf x) (array z ds T) h = refl
+path-differ (compound y ss) (leaf x) h = refl
+path-differ (compound y ss) (compound z ms) h = absurd (h refl)
+path-differ (compound y ss) (array z ds T) h = refl
+path-differ (array y es S) (leaf x) h = refl
+path-differ (array y es S) (compound z ms) h = refl
+path-differ (array y es S) (array z ds T) h = absurd (h refl)
+
+path-leaves : (S T : Datatype) → treeKind T ≡ treeKind S → (treeKind T ≡ 3 → ⊥) → (treeKind T ≡ 4 → ⊥) → hasPath S T ≡ true
+unfolding hasPath
+path-leaves (leaf x) (leaf y) e h k = leaf-same x y e
+path-leaves (compound y ss) (leaf x) e h k = absurd (h e)
+path-leaves (array y es S) (leaf x) e h k = absurd (k e)
+path-leaves S (compound z ms) e h k = absurd (h refl)
+path-leaves S (array z ds T) e h k = absurd (k refl)
+
+-- ---- one turn
+
+module _ (ws : List ℕ) (s : ℕ) (wd : List ℕ) (d : ℕ) {from to : ℕ} (hs : from ≡ kindAt ws s) (hd : to ≡ kindAt wd d) where
+  pub turn-differ : (to ≡ from → ⊥) → (ts td : List ℕ) → Turns ws ts s wd td d (Answer false)
+  turn-differ h ts td S D fs fd =
+      record {
+        is = path-differ (node S ws ts s) (node D wd td d) (λ e. h (hd ∙ sym (tree-kind D wd td d) ∙ e ∙ tree-kind S ws ts s ∙ sym hs));
+        onward = tt;
+      }
+
+  module _ (same : to ≡ from) where
+    pub turn-lists : to ≡ 3 → (ts td : List ℕ) → Turns ws ts s wd td d Lists
+    unfolding hasPath
+    turn-lists h ts td S D fs fd =
+        let ks : kindAt ws s ≡ 3 = sym hs ∙ sym same ∙ h in
+        let kd : kindAt wd d ≡ 3 = sym hd ∙ h in
+        record {
+          is = rw (compound-node S ws ts s ks, compound-node D wd td d kd) refl;
+          onward = (formed-compound S ws ts s fs ks .1, formed-compound D wd td d fd kd .1);
+        }
+
+    pub turn-leaves : (to ≡ 3 → ⊥) → (to ≡ 4 → ⊥) → (ts td : List ℕ) → Turns ws ts s wd td d (Answer true)
+    turn-leaves h k ts td S D fs fd =
+        record {
+          is =
+              path-leaves (node S ws ts s) (node D wd td d) (tree-kind D wd td d ∙ sym hd ∙ same ∙ hs ∙ sym (tree-kind S ws ts s))
+              (λ e. h (hd ∙ sym (tree-kind D wd td d) ∙ e)) (λ e. k (hd ∙ sym (tree-kind D wd td d) ∙ e));
+          onward = tt;
+        }
+
+    module _ (h : to ≡ 4) {m n : ℕ} (hm : Counts ws s m) (hn : Counts wd d n) where
+      arrays : (ts td : List ℕ) (S D : ℕ → Datatype) → Whole S ws ts s → Whole D wd td d
+          → hasPath (node S ws ts s) (node D wd td d) ≡ eqb m n && hasPath (S (baseWord ws s)) (D (baseWord wd d))
+      unfolding hasPath
+      arrays ts td S D fs fd =
+          let ks : kindAt ws s ≡ 4 = sym hs ∙ sym same ∙ h in
+          let kd : kindAt wd d ≡ 4 = sym hd ∙ h in
+          rw (array-node S ws ts s ks, array-node D wd td d kd, hm S ts fs ks, hn D td fd kd) refl
+
+      pub turn-counts : (m ≡ n → ⊥) → (ts td : List ℕ) → Turns ws ts s wd td d (Answer false)
+      turn-counts e ts td S D fs fd = record { is = arrays ts td S D fs fd ∙ rw (ne-eqb m n e) refl; onward = tt }
+
+      pub turn-bases : {k l : ℕ} → m ≡ n → Reads (baseWord ws s) k → Reads (baseWord wd d) l → (ts td : List ℕ) → Turns ws ts s wd td d (Bases k l)
+      turn-bases e hk hl ts td S D fs fd =
+          record {
+            is = arrays ts td S D fs fd ∙ rw (eq-eqb m n e, hk .is, hl .is) refl;
+            onward = (
+              rw (hk .is) (formed-array S ws ts s fs (sym hs ∙ sym same ∙ h) .1),
+              rw (hl .is) (formed-array D wd td d fd (sym hd ∙ h) .1),
+            );
+          }
+
+pub ruleset turn-laws = (needs, turn-differ, turn-lists, turn-leaves, turn-counts, turn-bases)
+
+-- ---- into a member
+
+module _ (ws ts : List ℕ) (s : ℕ) (wd td : List ℕ) (j : ℕ) {r : Found} (hr : r ≡ rowNamed ws ts (nameAt wd td j) (firstWord ws s) (rowsWord ws s)) where
+  abbrev inFound : (ℕ → Datatype) → Lookup → Bool
+  inFound D = onFound (λ o T. hasPath T (D (memberTypeWord wd j))) true
+
+  named-is : (S D : ℕ → Datatype) {v : Found} → r ≡ v → pathNamed D (membersOfType S ws ts s) wd td j ≡ inFound D (memberFound S ws v)
+  named-is S D e =
+      ap (inFound D) (member-named ws ts (nameAt wd td j) (firstWord ws s) S (rowsWord ws s) ∙ ap (memberFound S ws) (sym hr ∙ e))
+
+  pub inner-neither : r ≡ Missing → Inside ws ts s wd td j Neither
+  inner-neither e S D z fs fd = record { is = named-is S D e; onward = tt }
+
+  pub inner-both : {m k l : ℕ} → r ≡ At m → Reads (memberTypeWord ws m) k → Reads (memberTypeWord wd j) l → Inside ws ts s wd td j (Both k l)
+  inner-both e hk hl S D z fs fd =
+      record {
+        is = named-is S D e ∙ rw (hk .is, hl .is) refl;
+        onward = (
+          rw (hk .is) (named-formed S ws ts z (firstWord ws s) (nameAt wd td j) (rowsWord ws s) fs (sym hr ∙ e) .1),
+          rw (hl .is) fd,
+        );
+      }
+
+pub ruleset inner-laws = (needs, inner-neither, inner-both)
+
+-- ---- one level after the other
+
+pub path-deep : (f : ℕ) (ws ts : List ℕ) (s : ℕ) (wd td : List ℕ) (d : ℕ) → f ≡ 0 → hasPath (decode f ws ts s) (decode f wd td d) ≡ true
+unfolding decode hasPath
+path-deep f ws ts s wd td d e = rw e refl
+
+module _ (f : ℕ) (ws ts : List ℕ) (s : ℕ) (wd td : List ℕ) (d : ℕ) {r : Turn} (nonzero : f ≡ 0 → ⊥)
+    (formed : WellFormed (decode f ws ts s) × WellFormed (decode f wd td d)) (turn : (ts td : List ℕ) → Turns ws ts s wd td d r) where
+  pub turned : {v : Turn} → r ≡ v
+      → Turned (decode (f - 1) ws ts) (decode (f - 1) wd td) (sizeWord ws s) (membersOfType (decode (f - 1) ws ts) ws ts s) (sizeWord wd d)
+      (membersOfType (decode (f - 1) wd td) wd td d) (hasPath (decode f ws ts s) (decode f wd td d)) v
+  turned e =
+      let h : 0 < f = pos-of-ne-zero nonzero in
+      rw (decode-step f ws ts s h, decode-step f wd td d h, ← e)
+      (turn ts td (decode (f - 1) ws ts) (decode (f - 1) wd td) (whole f ws ts s h (formed .0)) (whole f wd td d h (formed .1)))
+
+module _ (ss : Members) (wd td : List ℕ) (D : ℕ → Datatype) (first : ℕ) where
+  pub lists-none : (n : ℕ) → n ≤ 0 → pathsTo ss (membersAt D wd td first n) ≡ true
+  unfolding membersAt hasPath
+  lists-none zero h = refl
+  lists-none (suc n) h = absurd (not-suc-le-zero h)
+
+  lists-more : (n : ℕ) → 0 < n
+      → pathsTo ss (membersAt D wd td first n) ≡ pathNamed D ss wd td (first + (n - 1)) && pathsTo ss (membersAt D wd td first (n - 1))
+  unfolding membersAt hasPath
+  lists-more zero h = absurd (not-suc-le-zero h)
+  lists-more (suc n) h = rw sub-one refl
+
+-- the members of the destination compound d that are left to look at: n rows from first on
+pub record Remains (f : ℕ) (ws ts : List ℕ) (s : ℕ) (wd td : List ℕ) (d first n : ℕ) : Type 0 where
+  pub is : hasPath (decode f ws ts s) (decode f wd td d)
+      ≡ pathsTo (membersOfType (decode (f - 1) ws ts) ws ts s) (membersAt (decode (f - 1) wd td) wd td first n)
+  pub source : WellFormedIn (sizeWord ws s) (membersOfType (decode (f - 1) ws ts) ws ts s)
+  pub destination : WellFormedIn (sizeWord wd d) (membersAt (decode (f - 1) wd td) wd td first n)
+
+module _ (f : ℕ) (ws ts : List ℕ) (s : ℕ) (wd td : List ℕ) (d : ℕ) where
+  pub lists-start : {first n : ℕ}
+      → Turned (decode (f - 1) ws ts) (decode (f - 1) wd td) (sizeWord ws s) (membersOfType (decode (f - 1) ws ts) ws ts s) (sizeWord wd d)
+      (membersOfType (decode (f - 1) wd td) wd td d) (hasPath (decode f ws ts s) (decode f wd td d)) Lists
+      → Reads (firstWord wd d) first → Reads (rowsWord wd d) n → Remains f ws ts s wd td d first n
+  lists-start turned hf hn =
+      record {
+        is = rw (hf .is, hn .is) (turned .is);
+        source = turned .onward .0;
+        destination = rw (hf .is, hn .is) (turned .onward .1);
+      }
+
+  module _ (first n : ℕ) {r : Inner} (rest : Remains f ws ts s wd td d first n) (h : 0 < n) (inner : Inside ws ts s wd td (first + (n - 1)) r) where
+    entered : {v : Inner} → r ≡ v
+        → Entered (decode (f - 1) ws ts) (decode (f - 1) wd td) (pathNamed (decode (f - 1) wd td) (membersOfType (decode (f - 1) ws ts) ws ts s) wd td (first + (n - 1))) v
+    entered e =
+        rw (← e)
+        (inner (decode (f - 1) ws ts) (decode (f - 1) wd td) (sizeWord ws s) (rest .source)
+        (row-formed (decode (f - 1) wd td) wd td (sizeWord wd d) first n h (rest .destination) .0))
+
+    pub both-formed : {k l : ℕ} → r ≡ Both k l → WellFormed (decode (f - 1) ws ts k) × WellFormed (decode (f - 1) wd td l)
+    both-formed e = entered e .onward
+
+    module _ {v : Inner} {a : Bool} (e : r ≡ v) (answer : a ≡ innerAfter (decode (f - 1) ws ts) (decode (f - 1) wd td) v) where
+      lists-next : hasPath (decode f ws ts s) (decode f wd td d)
+          ≡ a && pathsTo (membersOfType (decode (f - 1) ws ts) ws ts s) (membersAt (decode (f - 1) wd td) wd td first (n - 1))
+      lists-next =
+          rest .is ∙ lists-more (membersOfType (decode (f - 1) ws ts) ws ts s) wd td (decode (f - 1) wd td) first n h
+          ∙ rw (entered e .is, ← answer) refl
+
+      pub lists-fail : a ≡ false → hasPath (decode f ws ts s) (decode f wd td d) ≡ false
+      lists-fail z = lists-next ∙ rw z refl
+
+      pub lists-pass : a ≡ true → Remains f ws ts s wd td d first (n - 1)
+      lists-pass z =
+          record {
+            is = lists-next ∙ rw z refl;
+            source = rest .source;
+            destination = row-formed (decode (f - 1) wd td) wd td (sizeWord wd d) first n h (rest .destination) .1;
+          }
+
+  pub lists-done : (first n : ℕ) → Remains f ws ts s wd td d first n → n ≤ 0 → hasPath (decode f ws ts s) (decode f wd td d) ≡ true
+  lists-done first n rest h = rest .is ∙ lists-none (membersOfType (decode (f - 1) ws ts) ws ts s) wd td (decode (f - 1) wd td) first n h

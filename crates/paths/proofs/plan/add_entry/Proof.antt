@@ -1,0 +1,20 @@
+-- `paths::plan::add_entry` meets its contract. Assumes nothing.
+use Rattle.paths.proofs.Entries.{add-laws}
+use Rattle.paths.proofs.plan.add_entry.Statement.{statement}
+use Rattle.paths.proofs.plan.add_entry.Tie as tie
+
+pub add-entry-spec : {M : Type 1} → statement M
+add-entry-spec =
+    tie.close
+    (tie.spec
+    (λ c. search add-laws)
+    (λ c. search add-laws)
+    (λ c. search add-laws)
+    (λ c. search add-laws)
+    (λ c. search add-laws)
+    (λ c. search add-laws)
+    (λ c. search add-laws)
+    (λ c κs. search add-laws)
+    (λ c. search add-laws)
+    (λ c. search add-laws)
+    (λ c. search add-laws))

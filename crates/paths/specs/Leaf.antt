@@ -1,0 +1,35 @@
+-- The leaves and the matches that type numbers stand for, of half a table w beside its text t.
+use mathlib.Core.Path.{_≡_}
+use mathlib.Core.Bool.{cond}
+use mathlib.Core.List.{List}
+use mathlib.Core.Option.{Option, none, some}
+use Prim.Native.Nat.{ℕ, _≤_, _<_}
+use lib.Dec.{eqb}
+use Rattle.datatype.specs.Datatype.{Leaf}
+use Rattle.datatype.specs.Datatype.Leaf.{atomic, enumeration}
+use Rattle.datatype.specs.Matches.{Match, matchAt}
+use Rattle.datatype.specs.Matches.Match.{unmatched, matched}
+unfoldable pub use Rattle.records.specs.PlanWords.{leafOfType}
+use Rattle.table.specs.declared.Found.{Found}
+use Rattle.table.specs.declared.Found.the-variants.{At, Missing}
+use Rattle.table.specs.Table.{classWord, firstWord, rowsWord, layoutAt, symbolsAt, typeAt}
+use Rattle.paths.specs.declared.Pair.{Pair}
+use Rattle.paths.specs.declared.Pair.the-variants.{Matched, Unmatched}
+
+abbrev pub leafFound : List ℕ → List ℕ → Found → Option Leaf
+leafFound w t (At k) = some (leafOfType w t k)
+leafFound w t Missing = none
+
+abbrev pub matchOf : List ℕ → List ℕ → List ℕ → List ℕ → Pair → Match
+matchOf ws ts wd td (Matched a s d) = matched a (leafOfType ws ts s) (leafOfType wd td d)
+matchOf ws ts wd td Unmatched = unmatched
+
+-- a byte of a record, and two types of a table
+abbrev pub Small : Pair → Type 0
+Small (Matched a s d) = (a ≤ 4096) × (s < 64) × (d < 64)
+Small Unmatched = Unit {0}
+
+-- r is the match at byte b
+pub record MatchFound (ws ts : List ℕ) (i : ℕ) (wd td : List ℕ) (k b : ℕ) (r : Pair) : Type 0 where
+  pub is : matchOf ws ts wd td r ≡ matchAt (typeAt ws ts i) (typeAt wd td k) b
+  pub small : Small r

@@ -1,0 +1,3 @@
+pub mod Leaf
+pub mod Plan
+pub mod Steps

@@ -1,0 +1,33 @@
+-- The plan of two types, in words.
+use mathlib.Core.Path.{_≡_}
+use mathlib.Core.List.{List, [], _∷_, _++_}
+use Prim.Native.Nat.{ℕ, zero, suc, _+_, _*_, _≤_}
+use lib.ListN.{getD, length, set}
+use Rattle.datatype.specs.Matches.{Match, onMatch}
+use Rattle.records.specs.Plan.{Entry, planOf}
+use Rattle.records.specs.PlanWords.{entriesAt}
+use Rattle.table.specs.Table.{typeAt}
+use Rattle.paths.specs.declared.Pair.{Pair}
+use Rattle.paths.specs.Leaf.{matchOf}
+
+-- the plan p, of r entries, from type i of the table ws to type k of the table wd; it was `before` at first
+pub record Planned (ws ts : List ℕ) (i : ℕ) (wd td : List ℕ) (k : ℕ) (before p : List ℕ) (r : ℕ) : Type 0 where
+  pub entries : entriesAt p r ws ts wd td ≡ planOf (typeAt ws ts i) (typeAt wd td k)
+  pub room : length p ≡ length before
+  pub most : r ≤ 4096
+
+-- ---- one entry more
+
+-- entry n of these four words
+unfoldable pub entryPut : List ℕ → ℕ → ℕ → ℕ → ℕ → ℕ → List ℕ
+entryPut plan n to from s d = set (set (set (set plan (4 * n) to) (4 * n + 1) from) (4 * n + 2) s) (4 * n + 3) d
+
+-- the entry of a match at byte b, if there is one
+abbrev pub entryOf : ℕ → Match → List Entry
+entryOf b m = onMatch (λ a x y. record { to = b; from = a; source = x; destination = y } ∷ []) [] m
+
+-- the plan p has r entries: the n of the plan `before`, and that of the match m at byte b
+pub record Added (before : List ℕ) (n b : ℕ) (m : Pair) (p : List ℕ) (r : ℕ) : Type 0 where
+  pub entries : (ws ts wd td : List ℕ) → entriesAt p r ws ts wd td ≡ entriesAt before n ws ts wd td ++ entryOf b (matchOf ws ts wd td m)
+  pub room : length p ≡ length before
+  pub most : r ≤ n + 1

@@ -1,0 +1,151 @@
+-- What the functions inside the crate promise, a step of a walk each. No public contract cites this file.
+use Prim.Native.Nat.{ℕ, zero, suc, _+_, _-_, _≤_}
+use mathlib.Core.Path.{_≡_}
+use mathlib.Core.List.{List}
+use mathlib.Core.Bool.{Bool, true, cond}
+use mathlib.Core.Option.{Option, none, some}
+use lib.Dec.{eqb}
+use Rattle.datatype.specs.Datatype.{Leaf, Datatype, Members, size, elements}
+use Rattle.datatype.specs.Leaves.{within, leafAt}
+use Rattle.datatype.specs.Paths.{onFound, memberNamed, hasPath, pathsTo}
+use Rattle.datatype.specs.Matches.{Match, further, matchAt}
+use Rattle.datatype.specs.Matches.Match.{unmatched, matched}
+use Rattle.datatype.specs.WellFormed.{WellFormed, WellFormedIn}
+use Rattle.table.specs.declared.Found.{Found}
+use Rattle.table.specs.declared.Found.the-variants.{At, Missing}
+use Rattle.table.specs.Table.{classWord, sizeWord, firstWord, rowsWord, offsetWord, memberTypeWord, nameAt, membersAt, dimensionsAt, node}
+use Rattle.paths.specs.declared.Step.{Step}
+use Rattle.paths.specs.declared.Step.the-variants.{Go, Here, Gone}
+use Rattle.paths.specs.declared.Walk.{Walk}
+use Rattle.paths.specs.declared.Walk.the-variants.{On, Same, Off}
+use Rattle.paths.specs.declared.Turn.{Turn}
+use Rattle.paths.specs.declared.Turn.the-variants.{Answer, Bases, Lists}
+use Rattle.paths.specs.declared.Inner.{Inner}
+use Rattle.paths.specs.declared.Inner.the-variants.{Both, Neither}
+use Rattle.paths.specs.Leaf.{leafOfType}
+
+-- ---- types
+
+-- D's types have the sizes that the table says
+abbrev pub Sized : (ℕ → Datatype) → List ℕ → Type 0
+Sized D w = (k : ℕ) → size (D k) ≡ sizeWord w k
+
+-- and type i, made of them, is well formed
+pub record Whole (D : ℕ → Datatype) (w t : List ℕ) (i : ℕ) : Type 0 where
+  pub sized : Sized D w
+  pub formed : WellFormed (node D w t i)
+
+-- 0 int, 1 bits, 2 enum, 3 compound, 4 array, by a class word
+unfoldable pub kindOf : ℕ → ℕ
+kindOf c = cond (eqb c 4) 4 (cond (eqb c 3) 3 (cond (eqb c 2) 2 (cond (eqb c 1) 1 0)))
+
+abbrev pub kindAt : List ℕ → ℕ → ℕ
+kindAt w i = kindOf (classWord w i)
+
+-- r is the number of elements of type i, if that is an array
+abbrev pub Counts : List ℕ → ℕ → ℕ → Type 0
+Counts w i r = (D : ℕ → Datatype) (t : List ℕ) → Whole D w t i → kindAt w i ≡ 4 → r ≡ elements (dimensionsAt w i)
+
+-- ---- rows
+
+-- byte b lies in the member in row j
+abbrev pub covers : List ℕ → ℕ → ℕ → Bool
+covers w j b = within (offsetWord w j) (sizeWord w (memberTypeWord w j)) b
+
+-- of the n rows from first on, the newest whose member has byte b
+unfoldable pub rowOver : List ℕ → ℕ → ℕ → ℕ → Found
+rowOver w first zero b = Missing
+rowOver w first (suc n) b = cond (covers w (first + n) b) (At (first + n)) (rowOver w first n b)
+
+-- the members of type i, if that is a compound
+abbrev pub membersOfType : (ℕ → Datatype) → List ℕ → List ℕ → ℕ → Members
+membersOfType D w t i = membersAt D w t (firstWord w i) (rowsWord w i)
+
+-- ---- leaves
+
+-- the leaf that a step leads to; x is the leaf here
+abbrev pub leafAfter : (ℕ → Datatype) → Leaf → Step → Option Leaf
+leafAfter D x (Go k b) = leafAt (D k) b
+leafAfter D x Here = some x
+leafAfter D x Gone = none
+
+abbrev pub LeafStep : List ℕ → ℕ → ℕ → Step → Type 0
+LeafStep w i b r = (D : ℕ → Datatype) (t : List ℕ) → Sized D w → leafAt (node D w t i) b ≡ leafAfter D (leafOfType w t i) r
+
+-- ---- matches
+
+-- the match that a walk leads to; x and y are the leaves here
+abbrev pub matchAfter : (ℕ → Datatype) → (ℕ → Datatype) → Leaf → Leaf → Walk → Match
+matchAfter S D x y (On from k l b) = further from (matchAt (S k) (D l) b)
+matchAfter S D x y Same = matched 0 x y
+matchAfter S D x y Off = unmatched
+
+-- it leads on by few bytes and to well-formed types
+abbrev pub Onward : (ℕ → Datatype) → (ℕ → Datatype) → Walk → Type 0
+Onward S D (On from k l b) = (from ≤ 4096) × WellFormed (S k) × WellFormed (D l)
+Onward S D Same = Unit {0}
+Onward S D Off = Unit {0}
+
+-- the walk r leads to the match m
+pub record Led (S D : ℕ → Datatype) (x y : Leaf) (m : Match) (r : Walk) : Type 0 where
+  pub is : m ≡ matchAfter S D x y r
+  pub onward : Onward S D r
+
+abbrev pub Leads : List ℕ → List ℕ → ℕ → List ℕ → List ℕ → ℕ → ℕ → Walk → Type 0
+Leads ws ts s wd td d b r =
+    (S D : ℕ → Datatype) → Whole S ws ts s → Whole D wd td d
+    → Led S D (leafOfType ws ts s) (leafOfType wd td d) (matchAt (node S ws ts s) (node D wd td d) b) r
+
+-- the match, in the members ss, of the leaf at byte b that lies in the destination's row j
+abbrev pub matchNamed : (ℕ → Datatype) → Members → List ℕ → List ℕ → ℕ → ℕ → Match
+matchNamed D ss wd td j b =
+    onFound (λ o T. further o (matchAt T (D (memberTypeWord wd j)) (b - offsetWord wd j))) unmatched (memberNamed (nameAt wd td j) ss)
+
+abbrev pub LeadsIn : List ℕ → List ℕ → ℕ → List ℕ → List ℕ → ℕ → ℕ → Walk → Type 0
+LeadsIn ws ts s wd td j b r =
+    (S D : ℕ → Datatype) (x y : Leaf) → Whole S ws ts s → WellFormed (D (memberTypeWord wd j))
+    → Led S D x y (matchNamed D (membersOfType S ws ts s) wd td j b) r
+
+-- ---- paths
+
+-- what a turn leads to; ss and ds are the members here
+abbrev pub pathAfter : (ℕ → Datatype) → (ℕ → Datatype) → Members → Members → Turn → Bool
+pathAfter S D ss ds (Answer a) = a
+pathAfter S D ss ds (Bases k l) = hasPath (S k) (D l)
+pathAfter S D ss ds Lists = pathsTo ss ds
+
+abbrev pub Turnward : (ℕ → Datatype) → (ℕ → Datatype) → Type 0 → Turn → Type 0
+Turnward S D Formed (Answer a) = Unit {0}
+Turnward S D Formed (Bases k l) = WellFormed (S k) × WellFormed (D l)
+Turnward S D Formed Lists = Formed
+
+-- the turn r leads to the answer a
+pub record Turned (S D : ℕ → Datatype) (z : ℕ) (ss : Members) (y : ℕ) (ds : Members) (a : Bool) (r : Turn) : Type 0 where
+  pub is : a ≡ pathAfter S D ss ds r
+  pub onward : Turnward S D (WellFormedIn z ss × WellFormedIn y ds) r
+
+abbrev pub Turns : List ℕ → List ℕ → ℕ → List ℕ → List ℕ → ℕ → Turn → Type 0
+Turns ws ts s wd td d r =
+    (S D : ℕ → Datatype) → Whole S ws ts s → Whole D wd td d
+    → Turned S D (sizeWord ws s) (membersOfType S ws ts s) (sizeWord wd d) (membersOfType D wd td d) (hasPath (node S ws ts s) (node D wd td d)) r
+
+-- whether there is a path from the members ss to the destination's row j
+abbrev pub pathNamed : (ℕ → Datatype) → Members → List ℕ → List ℕ → ℕ → Bool
+pathNamed D ss wd td j = onFound (λ o T. hasPath T (D (memberTypeWord wd j))) true (memberNamed (nameAt wd td j) ss)
+
+abbrev pub innerAfter : (ℕ → Datatype) → (ℕ → Datatype) → Inner → Bool
+innerAfter S D (Both k l) = hasPath (S k) (D l)
+innerAfter S D Neither = true
+
+abbrev pub Inward : (ℕ → Datatype) → (ℕ → Datatype) → Inner → Type 0
+Inward S D (Both k l) = WellFormed (S k) × WellFormed (D l)
+Inward S D Neither = Unit {0}
+
+pub record Entered (S D : ℕ → Datatype) (a : Bool) (r : Inner) : Type 0 where
+  pub is : a ≡ innerAfter S D r
+  pub onward : Inward S D r
+
+abbrev pub Inside : List ℕ → List ℕ → ℕ → List ℕ → List ℕ → ℕ → Inner → Type 0
+Inside ws ts s wd td j r =
+    (S D : ℕ → Datatype) (z : ℕ) → WellFormedIn z (membersOfType S ws ts s) → WellFormed (D (memberTypeWord wd j))
+    → Entered S D (pathNamed D (membersOfType S ws ts s) wd td j) r

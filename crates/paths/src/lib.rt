@@ -1,0 +1,44 @@
+// Leaves, paths and matches of the types in half a working table, and the plan of the matched leaves.
+// What bounds the work, in a table that the reader of sheets made: a walk goes down at most 64 levels, and looks at no more than 256 rows of each table
+// at a level; a plan takes one walk for each of at most 4,096 bytes. The members of a type do not overlap, so the question for a path meets at most
+// 4,096 pairs of types at a level.
+pub mod leaf;
+pub mod matches;
+pub mod numbers;
+pub mod path;
+pub mod plan;
+pub mod types;
+
+// One step down from a type at a byte: to an inner type at a byte of it; here, where the type is a leaf that starts at the byte; or no leaf starts there.
+pub enum Step {
+    Go(usize, usize),
+    Here,
+    Gone,
+}
+
+// One step down from a source type and a destination type: on to inner types, so many bytes further in the source and at a byte of the destination's;
+// both are leaves; or the destination leaf has no match.
+pub enum Walk {
+    On(usize, usize, usize, usize),
+    Same,
+    Off,
+}
+
+// The match of a destination leaf: the source leaf's byte, the source leaf's type number and the destination leaf's.
+pub enum Pair {
+    Matched(usize, usize, usize),
+    Unmatched,
+}
+
+// One step of the question whether there is a path: its answer, or the two types or the two lists of members that it depends on.
+pub enum Turn {
+    Answer(bool),
+    Bases(usize, usize),
+    Lists,
+}
+
+// The types of the source member and of the destination member of one name, or none where the source has no such member.
+pub enum Inner {
+    Both(usize, usize),
+    Neither,
+}

@@ -1,0 +1,75 @@
+// What a type's record and its rows say to a walk.
+ghost use mathlib.Core.Path.{_≡_};
+ghost use Prim.Native.Nat.{_<_};
+ghost use Rattle.datatype.specs.Leaves.{within};
+ghost use Rattle.table.specs.Table.{nameAt, firstWord, rowsWord};
+ghost use Rattle.table.specs.Rows.{rowNamed};
+ghost use Rattle.paths.specs.Steps.{covers, rowOver, kindAt, Counts};
+use crate::numbers::quotient;
+use table::Found;
+use table::read::row_word;
+use table::read::type_word;
+use table::rows::row_named;
+
+// Byte b lies in the z bytes from offset on.
+fn inside(offset: usize, z: usize, b: usize) -> bool
+    requires { ⌜ (offset < 4294967296) × (z < 4294967296) ⌝ }
+    ensures { λ r. ⌜ r ≡ within offset z b ⌝ }
+{
+    if offset <= b { b < offset + z } else { false }
+}
+
+// Byte b lies in the member in row j.
+fn row_covers(w: &[u32], j: usize, b: usize) -> bool
+    ensures { λ r. ⌜ r ≡ covers (now (w .entry)) j b ⌝ }
+{
+    let offset = row_word(w, j, 2);
+    let k = row_word(w, j, 3);
+    let z = type_word(w, k, 1);
+    inside(offset, z, b)
+}
+
+// Of the n rows from first on, the newest whose member has byte b.
+pub fn row_over(w: &[u32], first: usize, n: usize, b: usize) -> Found
+    requires { ⌜ (first < 4294967296) × (n < 4294967296) ⌝ }
+    ensures { λ r. ⌜ r ≡ rowOver (now (w .entry)) first n b ⌝ }
+{
+    let mut left = n;
+    while 0 < left {
+        left -= 1;
+        let j = first + left;
+        if row_covers(w, j, b) {
+            return Found::At(j);
+        }
+    }
+    Found::Missing
+}
+
+// The row of the source type s that has the name of the destination's row j.
+pub fn row_of_name(ws: &[u32], ts: &[u8], s: usize, wd: &[u32], td: &[u8], j: usize) -> Found
+    ensures { λ r. ⌜ r ≡ rowNamed (now (ws .entry)) (now (ts .entry)) (nameAt (now (wd .entry)) (now (td .entry)) j) (firstWord (now (ws .entry)) s) (rowsWord (now (ws .entry)) s) ⌝ }
+{
+    let start = row_word(wd, j, 0);
+    let len = row_word(wd, j, 1);
+    let first = type_word(ws, s, 9);
+    let n = type_word(ws, s, 10);
+    row_named(ws, ts, first, n, td, start, len)
+}
+
+// The kind of type i: 0 int, 1 bits, 2 enum, 3 compound, 4 array.
+pub fn kind_at(w: &[u32], i: usize) -> usize
+    ensures { λ r. ⌜ r ≡ kindAt (now (w .entry)) i ⌝ }
+{
+    let class = type_word(w, i, 0);
+    if class < 5 { class } else { 0 }
+}
+
+// How many elements the array type i has.
+pub fn count_at(w: &[u32], i: usize) -> usize
+    ensures { λ r. ⌜ Counts (now (w .entry)) i r ⌝ }
+{
+    let z = type_word(w, i, 1);
+    let k = type_word(w, i, 8);
+    let y = type_word(w, k, 1);
+    quotient(z, y)
+}

@@ -1,0 +1,28 @@
+-- What the functions inside this crate promise of an enum's number on its way. No meaning of document 01 stands here.
+use mathlib.Core.Bool.{cond}
+use mathlib.Core.List.{List}
+use Prim.Native.Nat.{ℕ, zero, suc, _+_, _*_, _-_, _^_}
+use lib.Dec.{eqb}
+use lib.ListN.{getD}
+use Rattle.number.specs.declared.Fitted.{Fitted}
+use Rattle.number.specs.Number.{bitsOf}
+use Rattle.table.specs.declared.Found.{Found}
+use Rattle.table.specs.declared.Found.the-variants.{At, Missing}
+use Rattle.table.specs.Table.{classWord, rowsWord, valueAt}
+
+-- how many symbols type k has: none where it is no enum
+unfoldable pub symbolRows : List ℕ → ℕ → ℕ
+symbolRows w k = cond (eqb (classWord w k) 2) (rowsWord w k) 0
+
+abbrev pub allOnes : ℕ → Fitted
+allOnes p = record { raw = 2 ^ p - 1; kind = 3 }
+
+-- a row in one word, as p significant bits
+abbrev pub codeBits : List ℕ → ℕ → ℕ → Fitted
+codeBits w p zero = allOnes p
+codeBits w p (suc j) = record { raw = bitsOf p (valueAt w j); kind = 0 }
+
+-- a source row that was found, as p significant bits of type d
+abbrev pub foundBits : List ℕ → List ℕ → ℕ → ℕ → Found → Fitted
+foundBits to w d p (At j) = codeBits w p (getD to (d * 256 + j) 0)
+foundBits to w d p Missing = allOnes p

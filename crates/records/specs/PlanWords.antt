@@ -1,0 +1,110 @@
+-- The plan in words, as a call holds it: four words an entry, which are the destination byte, the source byte, the source type's number and the destination
+-- type's. `ws` and `wd` are the two halves of the working table, `ts` and `td` the sheets' texts beside them.
+use mathlib.Core.Path.{_≡_}
+use mathlib.Core.Bool.{cond}
+use mathlib.Core.List.{List, [], _∷_}
+use Prim.Native.Nat.{ℕ, zero, suc, _+_, _*_, _≤_, _<_}
+use lib.Dec.{eqb}
+use lib.ListN.{length, getD}
+use Rattle.number.specs.declared.Fitted.{Fitted}
+use Rattle.datatype.specs.Datatype.{Leaf, Datatype, size}
+use Rattle.datatype.specs.Datatype.Leaf.{atomic, enumeration}
+use Rattle.datatype.specs.WellFormed.{WellFormedLeaf, WellFormed}
+use Rattle.table.specs.declared.Found.{Found}
+use Rattle.table.specs.declared.Found.the-variants.{At, Missing}
+use Rattle.table.specs.Table.{classWord, firstWord, rowsWord, layoutAt, nameAt, symbolsAt}
+use Rattle.table.specs.Rows.{rowNamed}
+use Rattle.records.specs.Leaf.{numberIn, converted}
+use Rattle.records.specs.Plan.{Entry, planOf, AllSound}
+
+-- ---- entries
+
+-- type k where it is a leaf
+unfoldable pub leafOfType : List ℕ → List ℕ → ℕ → Leaf
+leafOfType w t k =
+    cond (eqb (classWord w k) 2) (enumeration (layoutAt w k) (symbolsAt w t (firstWord w k) (rowsWord w k))) (atomic (layoutAt w k))
+
+-- word q of entry i
+abbrev pub planWord : List ℕ → ℕ → ℕ → ℕ
+planWord plan i q = getD plan (4 * i + q) 0
+
+abbrev pub entryAt : List ℕ → List ℕ → List ℕ → List ℕ → List ℕ → ℕ → Entry
+entryAt plan ws ts wd td i =
+    record {
+      to = planWord plan i 0;
+      from = planWord plan i 1;
+      source = leafOfType ws ts (planWord plan i 2);
+      destination = leafOfType wd td (planWord plan i 3);
+    }
+
+-- the n entries from i on
+unfoldable pub entriesFrom : List ℕ → List ℕ → List ℕ → List ℕ → List ℕ → ℕ → ℕ → List Entry
+entriesFrom plan ws ts wd td i zero = []
+entriesFrom plan ws ts wd td i (suc n) = entryAt plan ws ts wd td i ∷ entriesFrom plan ws ts wd td (i + 1) n
+
+abbrev pub entriesAt : List ℕ → ℕ → List ℕ → List ℕ → List ℕ → List ℕ → List Entry
+entriesAt plan n ws ts wd td = entriesFrom plan ws ts wd td 0 n
+
+-- ---- symbols
+
+-- the rows of type k are among the table's 256
+abbrev pub RowsInside : List ℕ → ℕ → Type 0
+RowsInside w k = firstWord w k + rowsWord w k ≤ 256
+
+-- a row in one word: 0 for none
+abbrev pub rowCode : Found → ℕ
+rowCode (At j) = j + 1
+rowCode Missing = 0
+
+-- word d × 256 + j of `to` is the row of the destination enum d that has the name of source row j
+abbrev pub Translates : List ℕ → List ℕ → List ℕ → List ℕ → List ℕ → Type 0
+Translates to ws ts wd td =
+    (d j : ℕ) → d < 64 → j < 256 → classWord wd d ≡ 2 → RowsInside wd d
+    → getD to (d * 256 + j) 0 ≡ rowCode (rowNamed wd td (nameAt ws ts j) (firstWord wd d) (rowsWord wd d))
+
+-- ---- what the words have to stand for: the texts are in no word, and no code looks at them
+
+-- the leaves of types s and d
+pub record Pair (s d : ℕ) (ws wd to : List ℕ) : Type 0 where
+  pub sourceText : List ℕ
+  pub destinationText : List ℕ
+  pub source : WellFormedLeaf (leafOfType ws sourceText s)
+  pub destination : WellFormedLeaf (leafOfType wd destinationText d)
+  pub sourceRows : RowsInside ws s
+  pub destinationRows : RowsInside wd d
+  pub translates : Translates to ws sourceText wd destinationText
+
+-- what the number of the pair's source leaf at byte a of the record r becomes
+abbrev pub pairBecomes : {s d : ℕ} {ws wd to : List ℕ} → Pair s d ws wd to → ℕ → List ℕ → Fitted
+pairBecomes {s} {d} {ws} {wd} p a r =
+    let x = leafOfType ws (p .sourceText) s in
+    converted x (leafOfType wd (p .destinationText) d) (numberIn x a r)
+
+-- a plan of n entries for source records of s bytes and destination records of d bytes
+pub record Ready (s d : ℕ) (plan : List ℕ) (n : ℕ) (ws wd to : List ℕ) : Type 0 where
+  pub sourceText : List ℕ
+  pub destinationText : List ℕ
+  pub room : 4 * n ≤ length plan
+  pub sound : AllSound s d (entriesAt plan n ws sourceText wd destinationText)
+  pub sourceRows : (i : ℕ) → i < n → RowsInside ws (planWord plan i 2)
+  pub destinationRows : (i : ℕ) → i < n → RowsInside wd (planWord plan i 3)
+  pub translates : Translates to ws sourceText wd destinationText
+
+abbrev pub entriesOf : {s d : ℕ} {plan : List ℕ} {n : ℕ} {ws wd to : List ℕ} → Ready s d plan n ws wd to → List Entry
+entriesOf {plan = plan} {n = n} {ws = ws} {wd = wd} p = entriesAt plan n ws (p .sourceText) wd (p .destinationText)
+
+-- the plan of two datatypes of s and d bytes
+pub record Job (s d : ℕ) (plan : List ℕ) (n : ℕ) (ws wd to : List ℕ) : Type 0 where
+  pub source : Datatype
+  pub destination : Datatype
+  pub sourceFormed : WellFormed source
+  pub destinationFormed : WellFormed destination
+  pub sourceSize : s ≡ size source
+  pub destinationSize : d ≡ size destination
+  pub sourceText : List ℕ
+  pub destinationText : List ℕ
+  pub room : 4 * n ≤ length plan
+  pub entries : entriesAt plan n ws sourceText wd destinationText ≡ planOf source destination
+  pub sourceRows : (i : ℕ) → i < n → RowsInside ws (planWord plan i 2)
+  pub destinationRows : (i : ℕ) → i < n → RowsInside wd (planWord plan i 3)
+  pub translates : Translates to ws sourceText wd destinationText
