@@ -1,13 +1,12 @@
 -- What is made of a column, by the answer of its reader. Assumes nothing.
 use borrow.Author.Needs.{needs}
-use mathlib.Core.Path.{_≡_, refl, sym, ap, _∙_}
+use mathlib.Core.Path.{_≡_, sym, ap, _∙_}
 use mathlib.Core.Bool.{Bool}
 use mathlib.Core.List.{List}
 use Prim.Native.Nat.{ℕ, _-_}
 use lib.ListN.{take, drop}
 use lib.IntN.{ℤ}
 use Rattle.bits.specs.declared.Order.{Order}
-use Rattle.layout.specs.declared.Class.{Class}
 use Rattle.layout.specs.declared.Pad.{Pad}
 use Rattle.layout.specs.declared.Layout.{Layout}
 use Rattle.number.specs.Parts.{signedBy}
@@ -15,8 +14,7 @@ use Rattle.text.specs.declared.Field.{Field}
 use Rattle.text.specs.declared.Field.the-variants as field
 use Rattle.text.specs.declared.Whole.{Whole}
 use Rattle.text.specs.declared.Whole.the-variants as whole
-use Rattle.line.specs.Line.{layout}
-use Rattle.line.specs.Column.{Found, onFound, foundNumber, foundWhole, foundName, foundOrder, foundPad, foundSign, placeAt, padsAt, onPlace, onPads, layoutAt, onLayout}
+use Rattle.line.specs.Column.{Found, onFound, foundNumber, foundWhole, foundName, foundOrder, foundPad, foundSign, onPlace, onPads, onLayout}
 use Rattle.line.specs.Column.Found.{found, missing}
 use Rattle.line.specs.declared.NameColumn.{NameColumn}
 use Rattle.line.specs.declared.NameColumn.the-variants as nameColumn

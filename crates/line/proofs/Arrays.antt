@@ -1,34 +1,33 @@
 -- The dimensions of an array, one after the other. Assumes nothing.
 use borrow.Author.Needs.{needs}
-use borrow.Author.Tests.{eqb-true, ne-eqb, le-leb, lt-leb, lt-ltb, leb-true}
+use borrow.Author.Tests.{ne-eqb, le-leb, lt-leb, lt-ltb, leb-true}
 use mathlib.Core.Path.{_≡_, refl, sym, ap, ap₂, _∙_}
-use mathlib.Core.Bool.{Bool, true, false, cond, _&&_}
+use mathlib.Core.Bool.{Bool, true, false, _&&_}
 use mathlib.Core.List.{List, [], _∷_, _++_, append-nil}
 use mathlib.Core.Option.{Option, none, some}
-use Prim.Native.Nat.{ℕ, zero, suc, _+_, _-_, _*_, _<_, _≤_, _^_}
+use Prim.Native.Nat.{ℕ, zero, suc, _+_, _-_, _<_, _≤_}
 use native.Mathlib.Numerals.{add-one}
 use native.Mathlib.Omega.{arith}
-use mir.Val.{Fits}
-use mir.Syntax.{w64}
-use lib.Dec.{leb, ltb, eqb}
+use lib.Dec.{leb, ltb}
 use lib.ListN.{length, getD, take, drop, set, replicate, length-append, length-set, take-append-drop}
 use lib.Seq.{take-suc-set, drop-set-lt, drop-cons, append-snoc, length-take-le}
 use Rattle.datatype.specs.Datatype.{upToZero}
-use Rattle.text.specs.Field.{when, _>>=_, number}
-use Rattle.text.specs.Place.{fieldAt, fieldEnd, lineEnd, tabAt, newlineAt, fieldsAfter}
+use Rattle.text.specs.Field.{_>>=_, number}
+use Rattle.text.specs.Place.{fieldAt, fieldEnd, tabAt, newlineAt, fieldsAfter}
 use Rattle.text.specs.declared.Field.{Field}
 use Rattle.text.specs.declared.Field.the-variants as field
 use Rattle.line.specs.Line as said
 use Rattle.line.specs.Line.{Fields, column, numbers, arrayLineOf}
 use Rattle.line.specs.Line.Line.{arrayLine}
-use Rattle.line.specs.Column.{Found, columnAt, onFound, foundNumber}
+use Rattle.line.specs.Column.{Found, columnAt, nextAt, onFound, foundNumber}
 use Rattle.line.specs.Column.Found.{found, missing}
-use Rattle.line.specs.Read.{readable, eachPositive, Reading, asReading, readingTo, restEnd, columnsReading, arrayRead, Reads}
+use Rattle.line.specs.Read.{readable, eachPositive, Reading, readingTo, restEnd, columnsReading, arrayRead, Reads}
 use Rattle.line.specs.Read.Reading.{reads, faulty}
+use Rattle.line.specs.declared.Next.{Next}
+use Rattle.line.specs.declared.Next.the-variants as next
 use Rattle.line.specs.declared.ReadLine.{ReadLine}
-use Rattle.line.proofs.Columns.{byte-inside}
 use Rattle.line.proofs.Answers.{on-number, on-number-fault}
-use Rattle.line.proofs.Readings.{reading-none, fields-none, fields-some, column-reading, column-is}
+use Rattle.line.proofs.Readings.{reading-none, next-at, no-next, no-tab, fields-none, fields-some, column-reading, column-is}
 use Rattle.line.proofs.FirstWords.{reads-fault}
 
 -- ---- lists of dimensions
@@ -114,8 +113,7 @@ module _ (s : List ℕ) (q base : ℕ) where
   ended : (ds : List ℕ) → newlineAt s q ≡ true → readable (arrayLine base ds) ≡ true → columnsReading s q (arrayRest base ds) ≡ reads (arrayLine base ds) (q + 1)
   unfolding columnsReading arrayRest numbers readingTo
   ended ds b r =
-      let z : getD s q 0 ≡ 10 = eqb-true (getD s q 0) 10 b in
-      let n : tabAt s q ≡ false = ne-eqb (getD s q 0) 9 (λ (y : getD s q 0 ≡ 9). omega arith) in
+      let n : tabAt s q ≡ false = no-tab s q b in
       rw (fields-none s q n, append-nil ds) (simp (n, b, r))
 
   another : (ds : List ℕ) → (ltb 0 (length ds) && newlineAt s q) ≡ false
@@ -137,15 +135,15 @@ module _ (s : List ℕ) (base n : ℕ) (dims : List ℕ) (at : ℕ) (g : Reading
   so-far : length (take n dims) ≡ n
   so-far = length-take-le n dims (omega (arith, inv .few, inv .long))
 
-  next : onFound (columnAt number s at) (λ d e. columnsReading s e (arrayRest base (take n dims ++ (d ∷ [])))) faulty ≡ g
-  next = sym (another s at base (take n dims) (rw so-far (inv .onward))) ∙ inv .goes
+  next-turn : onFound (columnAt number s at) (λ d e. columnsReading s e (arrayRest base (take n dims ++ (d ∷ [])))) faulty ≡ g
+  next-turn = sym (another s at base (take n dims) (rw so-far (inv .onward))) ∙ inv .goes
 
   longer : (d : ℕ) (ns : List ℕ) → length ((take n dims ++ (d ∷ [])) ++ ns) ≡ n + 1 + length ns
   longer d ns = simp (length-append, so-far)
 
   pub dims-over : 4 ≤ n → faulty ≡ g
   unfolding onFound
-  dims-over h = go (columnAt number s at) ∙ next where
+  dims-over h = go (columnAt number s at) ∙ next-turn where
     go : (f : Found ℕ) → faulty ≡ onFound f (λ d e. columnsReading s e (arrayRest base (take n dims ++ (d ∷ [])))) faulty
     go missing = refl
     go (found d e) =
@@ -153,11 +151,11 @@ module _ (s : List ℕ) (base n : ℕ) (dims : List ℕ) (at : ℕ) (g : Reading
 
   module _ (f : Field) (is : foundNumber f ≡ columnAt number s at) where
     pub dims-fault : f ≡ field.Fault → faulty ≡ g
-    dims-fault h = on-number-fault _ _ f _ _ is h refl ∙ next
+    dims-fault h = on-number-fault _ _ f _ _ is h refl ∙ next-turn
 
     module _ (d e : ℕ) (h : f ≡ field.Number d e) where
       turn : columnsReading s e (arrayRest base (take n dims ++ (d ∷ []))) ≡ g
-      turn = on-number _ _ f _ _ is d e h refl ∙ next
+      turn = on-number _ _ f _ _ is d e h refl ∙ next-turn
 
       pub dims-zero : d ≡ 0 → faulty ≡ g
       dims-zero z = sym (refused s e base (take n dims ++ (d ∷ [])) (λ ns. rw z (with-zero base (take n dims) ns))) ∙ turn
@@ -182,21 +180,23 @@ module _ (s : List ℕ) (base n : ℕ) (dims : List ℕ) (at : ℕ) (g : Reading
             ∙ ap upToZero (ap₂ (λ (a b : List ℕ). a ++ b) taken left)
             ∙ up-to-zero (take n dims ++ (d ∷ [])) (4 - (n + 1)) all-positive
 
-        pub dims-last : (t : Bool) → t ≡ newlineAt s e → t ≡ true → reads (arrayLine base (upToZero (set dims n d))) (e + 1) ≡ g
-        dims-last t newline h =
-            let c : length (take n dims ++ (d ∷ [])) ≡ n + 1 = length-append (take n dims) (d ∷ []) ∙ ap (λ (m : ℕ). m + 1) so-far in
-            let r : readable (arrayLine base (take n dims ++ (d ∷ []))) ≡ true = good base (take n dims ++ (d ∷ [])) (omega arith) (omega arith) all-positive in
-            rw all-taken (sym (ended s e base (take n dims ++ (d ∷ [])) (sym newline ∙ h) r) ∙ turn)
+        module _ (x : Next) (ends : x ≡ nextAt s e) where
+          pub dims-last : (m : ℕ) → x ≡ next.At m → reads (arrayLine base (upToZero (set dims n d))) m ≡ g
+          dims-last m b =
+              let q = next-at s e m (sym ends ∙ b) in
+              let c : length (take n dims ++ (d ∷ [])) ≡ n + 1 = length-append (take n dims) (d ∷ []) ∙ ap (λ (k : ℕ). k + 1) so-far in
+              let r : readable (arrayLine base (take n dims ++ (d ∷ []))) ≡ true = good base (take n dims ++ (d ∷ [])) (omega arith) (omega arith) all-positive in
+              rw (all-taken, q .1) (sym (ended s e base (take n dims ++ (d ∷ [])) (q .0) r) ∙ turn)
 
-        pub dims-more : (t : Bool) → t ≡ newlineAt s e → t ≡ false → Dims s base (n + 1) (set dims n d) e g
-        dims-more t newline h = record {
-          few = omega arith;
-          long = length-set dims n d ∙ inv .long;
-          rest = left;
-          positive = ap eachPositive taken ∙ all-positive;
-          onward = simp (lt-ltb 0 (n + 1) (omega arith), ← newline, h);
-          goes = ap (λ (l : List ℕ). columnsReading s e (arrayRest base l)) taken ∙ turn;
-        }
+          pub dims-more : x ≡ next.Fault → Dims s base (n + 1) (set dims n d) e g
+          dims-more b = record {
+            few = omega arith;
+            long = length-set dims n d ∙ inv .long;
+            rest = left;
+            positive = ap eachPositive taken ∙ all-positive;
+            onward = simp (lt-ltb 0 (n + 1) (omega arith), no-next s e (sym ends ∙ b));
+            goes = ap (λ (l : List ℕ). columnsReading s e (arrayRest base l)) taken ∙ turn;
+          }
 
 -- ---- the first turn, and the end
 
@@ -216,11 +216,8 @@ pub array-fault : (s : List ℕ) (q : ℕ) (f : Field) → foundNumber f ≡ col
 unfolding arrayLineOf
 array-fault s q f is h = column-is s q number (λ base fs. numbers fs >>= λ ds. some (arrayLine base ds)) _ (on-number-fault _ _ f _ _ is h refl)
 
-pub array-fits : (s : List ℕ) (q : ℕ) (t : Bool) → t ≡ newlineAt s q → t ≡ true → length s * 1 < 2 ^ 63 → Fits w64 (q + 1)
-array-fits s q t newline h b = record { fits = omega (arith, byte-inside s q 10 (omega arith) (sym newline ∙ h)) }
-
 pub array-reads : (s : List ℕ) (r : ReadLine) (x : Reading) (base n : ℕ) (dims : List ℕ)
     → r ≡ arrayRead base dims n → reads (arrayLine base (upToZero dims)) n ≡ x → Reads s r x
 array-reads s r x base n dims e h = rw e (record { tells = h; within = refl })
 
-pub ruleset array-laws = (needs, dims-start, dims-over, dims-fault, dims-zero, dims-last, dims-more, array-fault, array-fits, array-reads, reads-fault)
+pub ruleset array-laws = (needs, dims-start, dims-over, dims-fault, dims-zero, dims-last, dims-more, array-fault, array-reads, reads-fault)

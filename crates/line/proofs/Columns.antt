@@ -3,13 +3,13 @@ use borrow.Author.Needs.{needs}
 use borrow.Author.Tests.{ltb-true, ltb-false, eqb-true}
 use mathlib.Core.Path.{_≡_, refl, sym, ap, _∙_}
 use mathlib.Core.Bool.{Bool, true, false, cond, not, _&&_}
-use mathlib.Core.List.{List, [], _∷_}
+use mathlib.Core.List.{List}
 use mathlib.Core.Option.{Option, none, some}
-use Prim.Native.Nat.{ℕ, _+_, _-_, _*_, _<_, _≤_, _^_}
+use Prim.Native.Nat.{ℕ, _+_, _-_, _*_, _<_, _^_}
 use native.Mathlib.Omega.{arith}
 use mir.Val.{Fits}
 use mir.Syntax.{w64}
-use lib.Dec.{eqb, leb, ltb}
+use lib.Dec.{leb, ltb}
 use lib.ListN.{length, getD, take, drop, List·getD-eq-default}
 use lib.IntN.{ℤ, pos, negsuc}
 use Rattle.bits.specs.declared.Order.{Order}
@@ -26,9 +26,9 @@ use Rattle.text.specs.declared.Whole.the-variants as whole
 use Rattle.text.proofs.Places.{field-bytes}
 use Rattle.text.specs.Text.{bytes}
 use Rattle.line.specs.Line.{word, noWord, order, pad, sign}
-use Rattle.line.specs.Column.{Found, given, columnAt, holdable, wholeNumber, foundNumber, foundWhole, foundName}
+use Rattle.line.specs.Column.{Found, given, columnAt, nextAt, holdable, wholeNumber, foundNumber, foundWhole}
 use Rattle.line.specs.Column.Found.{found, missing}
-use Rattle.line.specs.declared.NameColumn.the-variants.{Holds, Fault}
+use Rattle.line.specs.declared.Next.the-variants as next
 
 -- a byte that is not 0 stands inside the text
 pub byte-inside : (s : List ℕ) (q b : ℕ) → 0 < b → byteAt s q b ≡ true → q < length s
@@ -44,6 +44,23 @@ not-true false h = refl
 pub not-false : (t : Bool) → not t ≡ false → t ≡ true
 not-false true h = refl
 not-false false h = let z : _≡_ {A = ℕ} 0 1 = cc in absurd (omega arith)
+
+-- ---- the end of a line
+
+module _ (s : List ℕ) (q : ℕ) (t : Bool) (newline : t ≡ newlineAt s q) where
+  pub next-none : not t ≡ true → next.Fault ≡ nextAt s q
+  unfolding nextAt
+  next-none h = simp (← newline, not-true t h)
+
+  module _ (h : not t ≡ false) where
+    pub next-some : next.At (q + 1) ≡ nextAt s q
+    unfolding nextAt
+    next-some = simp (← newline, not-false t h)
+
+    pub next-fits : length s * 1 < 2 ^ 63 → Fits w64 (q + 1)
+    next-fits l = record { fits = omega (arith, byte-inside s q 10 (omega arith) (sym newline ∙ not-false t h)) }
+
+pub ruleset next-laws = (needs, next-none, next-some, next-fits)
 
 -- ---- what the readers' answers say of a field
 

@@ -3,3 +3,4 @@ pub mod Answers
 pub mod Readings
 pub mod Arrays
 pub mod FirstWords
+pub mod Callers

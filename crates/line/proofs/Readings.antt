@@ -1,14 +1,11 @@
 -- What a line says from a place on, column by column. Assumes nothing.
-use borrow.Author.Needs.{needs}
 use borrow.Author.Tests.{eqb-true, ne-eqb, leb-true, le-leb, lt-ltb}
 use mathlib.Core.Path.{_≡_, refl, sym, ap, _∙_}
-use mathlib.Core.Bool.{Bool, true, false, cond, not, _&&_}
+use mathlib.Core.Bool.{Bool, true, false, cond, _&&_}
 use mathlib.Core.List.{List, [], _∷_}
 use mathlib.Core.Option.{Option, none, some}
-use Prim.Native.Nat.{ℕ, _+_, _-_, _*_, _<_, _≤_, _^_, min}
+use Prim.Native.Nat.{ℕ, _+_, _-_, _<_, _≤_, min}
 use native.Mathlib.Omega.{arith}
-use mir.Val.{Fits}
-use mir.Syntax.{w64}
 use lib.Dec.{leb}
 use lib.IntN.{ℤ}
 use lib.ListN.{length, getD, take, drop, length-take, length-drop}
@@ -26,10 +23,12 @@ use Rattle.text.proofs.Places.{field-length, fields-at, line-end-last, line-end
 use Rattle.line.specs.Line as said
 use Rattle.line.specs.Line.{Fields, column, ends, order, pad, sign, layout, layoutColumns, intLine, bitsLine, valueLineOf}
 use Rattle.line.specs.Line.Line.{atomicLine, valueLine}
-use Rattle.line.specs.Column.{Found, given, columnAt, onFound, holdable, wholeNumber, foundWhole, foundName, placeAt, padsAt, onPlace, onPads, layoutAt, onLayout, signedAs}
+use Rattle.line.specs.Column.{Found, given, columnAt, onFound, nextAt, holdable, wholeNumber, foundWhole, foundName, placeAt, padsAt, onPlace, onPads, layoutAt, onLayout, signedAs}
 use Rattle.line.specs.Column.Found.{found, missing}
 use Rattle.line.specs.Read.{readable, Reading, readingTo, restEnd, columnsReading, nameWithin, namesWithin, reading, Reads}
 use Rattle.line.specs.Read.Reading.{reads, faulty}
+use Rattle.line.specs.declared.Next.{Next}
+use Rattle.line.specs.declared.Next.the-variants as next
 use Rattle.line.specs.declared.NameColumn.{NameColumn}
 use Rattle.line.specs.declared.NameColumn.the-variants as nameColumn
 use Rattle.line.specs.declared.PlaceColumns.{PlaceColumns}
@@ -39,10 +38,30 @@ use Rattle.line.specs.declared.PadColumns.the-variants as padColumns
 use Rattle.line.specs.declared.LayoutColumns.{LayoutColumns}
 use Rattle.line.specs.declared.LayoutColumns.the-variants as layoutColumns
 use Rattle.line.specs.declared.ReadLine.{ReadLine}
-use Rattle.line.proofs.Columns.{byte-inside, not-true, not-false}
+use Rattle.line.proofs.Columns.{byte-inside}
 use Rattle.line.proofs.Answers as a
 
 -- ---- where a line ends
+
+module _ (s : List ℕ) (q : ℕ) where
+  pub next-at : (n : ℕ) → nextAt s q ≡ next.At n → (newlineAt s q ≡ true) × (n ≡ q + 1)
+  unfolding nextAt
+  next-at n h = go (newlineAt s q) h where
+    go : (t : Bool) → cond t (next.At (q + 1)) next.Fault ≡ next.At n → (t ≡ true) × (n ≡ q + 1)
+    go true g = (refl, cc)
+    go false g = let z : _≡_ {A = ℕ} 0 1 = cc in absurd (omega arith)
+
+  pub no-next : nextAt s q ≡ next.Fault → newlineAt s q ≡ false
+  unfolding nextAt
+  no-next h = go (newlineAt s q) h where
+    go : (t : Bool) → cond t (next.At (q + 1)) next.Fault ≡ next.Fault → t ≡ false
+    go true g = let z : _≡_ {A = ℕ} 0 1 = cc in absurd (omega arith)
+    go false g = refl
+
+  pub no-tab : newlineAt s q ≡ true → tabAt s q ≡ false
+  no-tab b =
+      let z : getD s q 0 ≡ 10 = eqb-true (getD s q 0) 10 b in
+      ne-eqb (getD s q 0) 9 (λ (y : getD s q 0 ≡ 9). omega arith)
 
 pub line-end : (s : List ℕ) (at : ℕ) → lineEnd s at ≡ restEnd s (fieldEnd s at)
 line-end s at = go (tabAt s (fieldEnd s at)) refl where
@@ -96,25 +115,26 @@ module _ (s : List ℕ) (q : ℕ) where
 
   -- ---- the end of a line
 
-  module _ (t : Bool) (newline : t ≡ newlineAt s q) (l : said.Line) (x : Reading) where
-    pub line-ends : not t ≡ false → readable l ≡ true → x ≡ reads l (q + 1) → x ≡ columnsReading s q (ends l)
-    unfolding columnsReading readingTo
-    line-ends h r is =
-        let b : newlineAt s q ≡ true = sym newline ∙ not-false t h in
-        let z : getD s q 0 ≡ 10 = eqb-true (getD s q 0) 10 b in
-        let n : tabAt s q ≡ false = ne-eqb (getD s q 0) 9 (λ (y : getD s q 0 ≡ 9). omega arith) in
-        is ∙ (rw (fields-none n) (simp (n, b, r)))
-
-    line-goes-on : (u : Bool) → tabAt s q ≡ u → newlineAt s q ≡ false → faulty ≡ columnsReading s q (ends l)
+  module _ (l : said.Line) where
+    line-goes-on : (t : Bool) → tabAt s q ≡ t → newlineAt s q ≡ false → faulty ≡ columnsReading s q (ends l)
     unfolding columnsReading readingTo
     line-goes-on true e b = rw (fields-some e) (reading-none s (restEnd s q))
     line-goes-on false e b = rw (fields-none e) (simp (e, b))
 
-    pub line-not-ended : not t ≡ true → x ≡ faulty → x ≡ columnsReading s q (ends l)
-    line-not-ended h is = is ∙ line-goes-on (tabAt s q) refl (sym newline ∙ not-true t h)
+    line-done : newlineAt s q ≡ true → readable l ≡ true → reads l (q + 1) ≡ columnsReading s q (ends l)
+    unfolding columnsReading readingTo
+    line-done b r =
+        let n : tabAt s q ≡ false = no-tab s q b in
+        rw (fields-none n) (simp (n, b, r))
 
-  pub line-fits : (t : Bool) → t ≡ newlineAt s q → not t ≡ false → length s * 1 < 2 ^ 63 → Fits w64 (q + 1)
-  line-fits t newline h b = record { fits = omega (arith, byte-inside s q 10 (omega arith) (sym newline ∙ not-false t h)) }
+    module _ (f : Next) (is : f ≡ nextAt s q) (x : Reading) where
+      pub line-ends : (n : ℕ) → f ≡ next.At n → readable l ≡ true → x ≡ reads l n → x ≡ columnsReading s q (ends l)
+      line-ends n e r h =
+          let p = next-at s q n (sym is ∙ e) in
+          h ∙ ap (reads l) (p .1) ∙ line-done (p .0) r
+
+      pub line-not-ended : f ≡ next.Fault → x ≡ faulty → x ≡ columnsReading s q (ends l)
+      line-not-ended e h = h ∙ line-goes-on (tabAt s q) refl (no-next s q (sym is ∙ e))
 
 -- ---- an int and a bits
 
@@ -247,4 +267,4 @@ module _ (s : List ℕ) (r : ReadLine) (x : Reading) where
 pub atomic-reads : (l m : Layout) (n : ℕ) → l ≡ m → reads (atomicLine l) n ≡ reads (atomicLine m) n
 atomic-reads l m n e = rw e
 
-pub ruleset line-laws = (a.on-laws, a.on-layout, a.on-layout-fault, a.on-sign, a.on-sign-fault, a.on-name, a.on-name-fault, a.on-whole, a.on-whole-fault, column-is, line-ends, line-not-ended, line-fits, int-is, bits-is, value-is, value-readable, name-within, reads-by, atomic-reads)
+pub ruleset line-laws = (a.on-laws, a.on-layout, a.on-layout-fault, a.on-sign, a.on-sign-fault, a.on-name, a.on-name-fault, a.on-whole, a.on-whole-fault, column-is, line-ends, line-not-ended, int-is, bits-is, value-is, value-readable, name-within, reads-by, atomic-reads)

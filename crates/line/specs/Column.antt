@@ -12,12 +12,14 @@ use Rattle.layout.specs.declared.Pad.{Pad}
 use Rattle.layout.specs.declared.Layout.{Layout}
 use Rattle.number.specs.Parts.{signedBy}
 use Rattle.text.specs.Field.{when, _>>=_, number, enumNumber}
-use Rattle.text.specs.Place.{fieldAt, fieldEnd, tabAt}
+use Rattle.text.specs.Place.{fieldAt, fieldEnd, tabAt, newlineAt}
 use Rattle.text.specs.declared.Field.{Field}
 use Rattle.text.specs.declared.Field.the-variants as field
 use Rattle.text.specs.declared.Whole.{Whole}
 use Rattle.text.specs.declared.Whole.the-variants as whole
 use Rattle.line.specs.Line.{order, pad, layout}
+use Rattle.line.specs.declared.Next.{Next}
+use Rattle.line.specs.declared.Next.the-variants as next
 use Rattle.line.specs.declared.NameColumn.{NameColumn}
 use Rattle.line.specs.declared.NameColumn.the-variants as nameColumn
 use Rattle.line.specs.declared.OrderColumn.{OrderColumn}
@@ -59,6 +61,10 @@ onFound missing k bad = bad
 -- an enum's number that an answer can hold
 unfoldable pub wholeNumber : List ℕ → Option ℤ
 wholeNumber f = enumNumber f >>= λ z. when (holdable z) z
+
+-- where the next line starts, if this one has its byte 10 at q
+unfoldable pub nextAt : List ℕ → ℕ → Next
+nextAt s q = cond (newlineAt s q) (next.At (q + 1)) next.Fault
 
 -- ---- what the readers' answers mean
 

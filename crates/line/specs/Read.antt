@@ -1,6 +1,6 @@
 -- What the reader of a line answers, beside what the definition says of the line.
 use mathlib.Core.Path.{_≡_}
-use mathlib.Core.Bool.{Bool, true, false, cond, _&&_}
+use mathlib.Core.Bool.{Bool, true, cond, _&&_}
 use mathlib.Core.List.{List, [], _∷_}
 use mathlib.Core.Option.{Option, none, some}
 use Prim.Native.Nat.{ℕ, _+_, _-_}
@@ -10,7 +10,7 @@ use Rattle.datatype.specs.Datatype.{upToZero}
 use Rattle.number.specs.Parts.{signedBy}
 use Rattle.text.specs.Text.{bytes}
 use Rattle.text.specs.Field.{when, _>>=_}
-use Rattle.text.specs.Place.{fieldAt, lineAt, lineEnd, tabAt, newlineAt, fieldsAfter}
+use Rattle.text.specs.Place.{lineAt, lineEnd, tabAt, newlineAt, fieldsAfter}
 use Rattle.line.specs.Line as said
 use Rattle.line.specs.Column.{holdable}
 use Rattle.line.specs.Line.{Fields, lineOf, word, noWord, compoundLineOf, memberLineOf, arrayLineOf}

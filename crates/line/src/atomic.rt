@@ -5,11 +5,13 @@ ghost use Rattle.line.specs.Column.{placeAt, padsAt, layoutAt, signedAs}
 ghost use Rattle.line.specs.Read.{Reads, columnsReading, plainLine};
 use crate::LayoutColumns;
 use crate::Line;
+use crate::Next;
 use crate::OrderColumn;
 use crate::PadColumn;
 use crate::PadColumns;
 use crate::PlaceColumns;
 use crate::SignColumn;
+use crate::column::next_line;
 use crate::column::number_column;
 use crate::column::order_column;
 use crate::column::pad_column;
@@ -19,7 +21,6 @@ use bits::ByteAt;
 use layout::Class;
 use layout::Layout;
 use text::Field;
-use text::is_newline;
 
 fn place_columns(s: &[u8], q: usize) -> PlaceColumns
     ensures { λ r. ⌜ r ≡ placeAt (now (s .entry)) q ⌝ }
@@ -90,10 +91,10 @@ pub fn int_line(s: &[u8], q: usize) -> Line
     let SignColumn::Holds(signed, b) = sign_column(s, a) else {
         return Line::Fault;
     };
-    if !is_newline(s, b) {
+    let Next::At(next) = next_line(s, b) else {
         return Line::Fault;
-    }
-    Line::Atomic(with_sign(l, signed), b + 1)
+    };
+    Line::Atomic(with_sign(l, signed), next)
 }
 
 pub fn bits_line(s: &[u8], q: usize) -> Line
@@ -102,8 +103,8 @@ pub fn bits_line(s: &[u8], q: usize) -> Line
     let LayoutColumns::Holds(l, a) = layout_columns(s, q, Class::Bits) else {
         return Line::Fault;
     };
-    if !is_newline(s, a) {
+    let Next::At(next) = next_line(s, a) else {
         return Line::Fault;
-    }
-    Line::Atomic(l, a + 1)
+    };
+    Line::Atomic(l, next)
 }

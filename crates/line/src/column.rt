@@ -2,8 +2,9 @@
 ghost use mathlib.Core.Path.{_≡_};
 ghost use Rattle.text.specs.Field.{number, name};
 ghost use Rattle.line.specs.Line.{order, pad, sign};
-ghost use Rattle.line.specs.Column.{columnAt, wholeNumber, foundNumber, foundWhole, foundName, foundOrder, foundPad, foundSign};
+ghost use Rattle.line.specs.Column.{columnAt, nextAt, wholeNumber, foundNumber, foundWhole, foundName, foundOrder, foundPad, foundSign};
 use crate::NameColumn;
+use crate::Next;
 use crate::OrderColumn;
 use crate::PadColumn;
 use crate::SignColumn;
@@ -13,11 +14,22 @@ use text::Field;
 use text::Name;
 use text::Whole;
 use text::field_end;
+use text::is_newline;
 use text::is_tab;
 use text::name_at;
 use text::number_at;
 use text::whole_at;
 use text::word_at;
+
+// The line ends where its last field ended: at its byte 10.
+pub fn next_line(s: &[u8], q: usize) -> Next
+    ensures { λ r. ⌜ r ≡ nextAt (now (s .entry)) q ⌝ }
+{
+    if !is_newline(s, q) {
+        return Next::Fault;
+    }
+    Next::At(q + 1)
+}
 
 pub fn number_column(s: &[u8], q: usize) -> Field
     ensures { λ r. ⌜ foundNumber r ≡ columnAt number (now (s .entry)) q ⌝ }

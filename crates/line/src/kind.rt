@@ -3,12 +3,13 @@ ghost use Rattle.line.specs.Line.{enumLineOf, valueLineOf, compoundLineO
 ghost use Rattle.line.specs.Read.{Reads, columnsReading, plainLine};
 use crate::Line;
 use crate::NameColumn;
+use crate::Next;
 use crate::column::name_column;
+use crate::column::next_line;
 use crate::column::number_column;
 use crate::column::whole_column;
 use text::Field;
 use text::Whole;
-use text::is_newline;
 
 pub fn enum_line(s: &[u8], q: usize) -> Line
     ensures { λ r. ⌜ Reads (now (s .entry)) (plainLine r) (columnsReading (now (s .entry)) q enumLineOf) ⌝ }
@@ -16,10 +17,10 @@ pub fn enum_line(s: &[u8], q: usize) -> Line
     let Field::Number(base, a) = number_column(s, q) else {
         return Line::Fault;
     };
-    if !is_newline(s, a) {
+    let Next::At(next) = next_line(s, a) else {
         return Line::Fault;
-    }
-    Line::Enum(base, a + 1)
+    };
+    Line::Enum(base, next)
 }
 
 pub fn value_line(s: &[u8], q: usize) -> Line
@@ -31,10 +32,10 @@ pub fn value_line(s: &[u8], q: usize) -> Line
     let Whole::Number(negative, distance, a) = whole_column(s, end) else {
         return Line::Fault;
     };
-    if !is_newline(s, a) {
+    let Next::At(next) = next_line(s, a) else {
         return Line::Fault;
-    }
-    Line::Value(start, end, negative, distance, a + 1)
+    };
+    Line::Value(start, end, negative, distance, next)
 }
 
 pub fn comp_line(s: &[u8], q: usize) -> Line
@@ -43,10 +44,10 @@ pub fn comp_line(s: &[u8], q: usize) -> Line
     let Field::Number(size, a) = number_column(s, q) else {
         return Line::Fault;
     };
-    if !is_newline(s, a) {
+    let Next::At(next) = next_line(s, a) else {
         return Line::Fault;
-    }
-    Line::Compound(size, a + 1)
+    };
+    Line::Compound(size, next)
 }
 
 pub fn member_line(s: &[u8], q: usize) -> Line
@@ -61,8 +62,8 @@ pub fn member_line(s: &[u8], q: usize) -> Line
     let Field::Number(kind, b) = number_column(s, a) else {
         return Line::Fault;
     };
-    if !is_newline(s, b) {
+    let Next::At(next) = next_line(s, b) else {
         return Line::Fault;
-    }
-    Line::Member(start, end, offset, kind, b + 1)
+    };
+    Line::Member(start, end, offset, kind, next)
 }

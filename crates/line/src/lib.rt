@@ -15,10 +15,10 @@ use layout::Pad;
 use text::field_end;
 use text::word_at;
 
-pub mod array;
-pub mod atomic;
-pub mod column;
-pub mod kind;
+mod array;
+mod atomic;
+mod column;
+mod kind;
 
 // What a line says, and the place behind it. A value's number is its sign and its distance from 0, or from -1 where it is negative.
 pub enum Line {
@@ -44,40 +44,46 @@ pub struct ReadLine {
 }
 
 // What a column holds, and where it ends. Of a name also where it starts.
-pub enum NameColumn {
+enum NameColumn {
     Holds(usize, usize),
     Fault,
 }
 
-pub enum OrderColumn {
+enum OrderColumn {
     Holds(Order, usize),
     Fault,
 }
 
-pub enum PadColumn {
+enum PadColumn {
     Holds(Pad, usize),
     Fault,
 }
 
-pub enum SignColumn {
+enum SignColumn {
     Holds(bool, usize),
     Fault,
 }
 
+// Where the next line starts.
+enum Next {
+    At(usize),
+    Fault,
+}
+
 // Size, order, offset and precision.
-pub enum PlaceColumns {
+enum PlaceColumns {
     Holds(u32, Order, u32, u32, usize),
     Fault,
 }
 
 // Lsb and msb.
-pub enum PadColumns {
+enum PadColumns {
     Holds(Pad, Pad, usize),
     Fault,
 }
 
 // All six, as an unsigned layout.
-pub enum LayoutColumns {
+enum LayoutColumns {
     Holds(Layout, usize),
     Fault,
 }

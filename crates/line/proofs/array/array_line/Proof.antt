@@ -40,5 +40,6 @@ array-line-spec =
     (λ c. search array-laws)
     (λ c. search array-laws)
     (λ c. search array-laws)
+    (λ c. search array-laws)
     (λ c κs. search array-laws)
     (λ c. search array-laws))

@@ -14,4 +14,5 @@ bits-line-spec =
     (λ c κs. search line-laws depth 12)
     (λ c. search line-laws depth 12)
     (λ c. search line-laws depth 12)
+    (λ c. search line-laws depth 12)
     (λ c. search line-laws depth 12))

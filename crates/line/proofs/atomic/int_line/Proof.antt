@@ -17,6 +17,7 @@ int-line-spec =
     (λ c. search line-laws depth 12)
     (λ c κs. search line-laws depth 12)
     (λ c. search line-laws depth 12)
-    (λ c κs. search line-laws depth 12)
     (λ c. search line-laws depth 12)
+    (λ c. search line-laws depth 12)
+    (λ c κs. search line-laws depth 12)
     (λ c. search line-laws depth 12))

@@ -16,4 +16,5 @@ comp-line-spec =
     (λ c κs. search line-laws depth 12)
     (λ c. search line-laws depth 12)
     (λ c. search line-laws depth 12)
+    (λ c. search line-laws depth 12)
     (λ c. search line-laws depth 12))

@@ -24,4 +24,5 @@ member-line-spec =
     (λ c κs. search line-laws depth 12)
     (λ c. search line-laws depth 12)
     (λ c. search line-laws depth 12)
+    (λ c. search line-laws depth 12)
     (λ c. search line-laws depth 12))

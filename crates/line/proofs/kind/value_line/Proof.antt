@@ -18,4 +18,5 @@ value-line-spec =
     (λ c κs. search line-laws depth 12)
     (λ c. search line-laws depth 12)
     (λ c. search line-laws depth 12)
+    (λ c. search line-laws depth 12)
     (λ c. search line-laws depth 12))
