@@ -1,1 +1,2 @@
 pub mod LeafList
+pub mod Lines

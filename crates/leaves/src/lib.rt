@@ -1,1 +1,60 @@
-// The leaf list: definitions in specs/, no code yet.
+// The leaf list: every leaf of a sheet's type, a line each.
+ghost use mathlib.Core.Path.{_≡_};
+ghost use mathlib.Core.List.{List};
+ghost use Prim.Native.Nat.{ℕ, _≤_};
+ghost use lib.ListN.{length};
+ghost use Rattle.convert.specs.Run.{tableAfter};
+ghost use Rattle.table.specs.Table.{sizeWord, typeAt};
+ghost use Rattle.sheet.specs.Sheet.{sheetOf};
+ghost use Rattle.sheet.specs.Sheet.Sheet.{ofType};
+ghost use Rattle.leaves.specs.LeafList.{answerOf, listAfter};
+ghost use Rattle.leaves.specs.Lines.{Lists};
+use crate::leaf::lines_len;
+use crate::leaf::put_list;
+use answer::Answer;
+use sheet::SheetRead;
+use sheet::read::read_sheet;
+use table::read::type_word;
+use table::store::clear;
+
+pub mod column;
+pub mod leaf;
+
+// The list of type i, where there is room for it.
+fn list_type(list: &mut [u8], w: &[u32], i: usize) -> Answer
+    requires { ⌜ sizeWord (now w) i ≤ 4096 ⌝ }
+    ensures { λ r. ⌜ ((t : List ℕ) → Lists (ofType (typeAt (now (w .entry)) t i)) (now (list .entry)) (now (list .exit)) r) ⌝ }
+{
+    let size = type_word(w, i, 1);
+    let len = 14 + lines_len(w, i, size);
+    if list.len() < len {
+        return Answer::Room;
+    }
+    put_list(list, w, i, size);
+    Answer::Done(len as u64)
+}
+
+// The list of a sheet, which is read into half a table.
+fn list_sheet(sheet: &[u8], list: &mut [u8], half: &mut [u32]) -> Answer
+    requires { ⌜ length (now half) ≡ 4096 ⌝ }
+    ensures { λ r. ⌜ Lists (sheetOf (now (sheet .entry))) (now (list .entry)) (now (list .exit)) r ⌝ }
+{
+    match read_sheet(sheet, half) {
+        SheetRead::Types(n, _) => list_type(list, half, (n - 1) as usize),
+        SheetRead::Faulty(k) => Answer::Source(k),
+    }
+}
+
+// Writes the leaf list of a sheet.
+pub fn leaf_list(sheet: &[u8], list: &mut [u8], table: &mut [u32]) -> Answer
+    ensures answer { λ r. ⌜ r ≡ answerOf (now (sheet .entry)) (length (now (list .entry))) (length (now (table .entry))) ⌝ }
+    ensures list { λ r. ⌜ now (list .exit) ≡ listAfter (now (sheet .entry)) (now (list .entry)) (length (now (table .entry))) ⌝ }
+    ensures table { λ r. ⌜ now (table .exit) ≡ tableAfter r (now (table .entry)) ⌝ }
+{
+    if table.len() < 8192 {
+        return Answer::Table;
+    }
+    let a = list_sheet(sheet, list, &mut table[..4096]);
+    clear(table, 8192);
+    a
+}

@@ -143,5 +143,5 @@ rows =
     ∷ []
 
 solved : map (λ (r : Row). solve (r .exercise)) rows ≡ map (λ (r : Row). r .solution) rows
-unfolding rows solve setters.setSize setters.setPrecision setters.setOffset same symbolOf numberNamed leaves.within leaves.leafAt paths.memberNamed paths.hasPath matches.matchAt text.split fields.digits fields.decimal fields.number fields.enumNumber fields.decimalIn fields.eachPrintable fields.name line.column line.order line.pad line.sign line.layoutColumns line.intLine line.bitsLine line.enumLineOf line.valueLineOf line.compoundLineOf line.memberLineOf line.numbers line.arrayLineOf line.lineKind line.lineOf sheet.typeNumbered sheet.isApart sheet.eachSome sheet.judge sheet.linesFrom sheet.outcomeOf sheet.sheetOf one.reading one.withLeaf one.withLeavesBelow one.kindAt one.raisedBelow one.firstRaising many.joined many.exceptions runs.checksOf runs.stopFrom runs.answer runs.after lists.leafLines lists.leafList lists.answerOf lists.listAfter
+unfolding rows solve setters.setSize setters.setPrecision setters.setOffset same symbolOf numberNamed leaves.within leaves.leafAt paths.memberNamed paths.hasPath matches.matchAt text.split fields.digits fields.decimal fields.number fields.enumNumber fields.decimalIn fields.eachPrintable fields.name line.column line.order line.pad line.sign line.layoutColumns line.intLine line.bitsLine line.enumLineOf line.valueLineOf line.compoundLineOf line.memberLineOf line.numbers line.arrayLineOf line.lineKind line.lineOf sheet.typeNumbered sheet.isApart sheet.judge sheet.linesFrom sheet.outcomeOf sheet.sheetOf one.reading one.withLeaf one.withLeavesBelow one.kindAt one.raisedBelow one.firstRaising many.joined many.exceptions runs.checksOf runs.stopFrom runs.answer runs.after lists.leafLines lists.leafList lists.answerOf lists.listAfter
 solved = refl

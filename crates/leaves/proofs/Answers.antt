@@ -1,0 +1,132 @@
+-- Answers, the list and the table after a call. Assumes nothing.
+use mathlib.Core.Path.{_≡_, refl, sym, ap, _∙_}
+use mathlib.Core.Bool.{Bool, true, false, cond}
+use mathlib.Core.List.{List, _++_}
+use Prim.Native.Nat.{ℕ, zero, suc, _+_, _-_, _≤_, _<_}
+use native.Mathlib.Omega.{arith}
+use borrow.Author.Needs.{needs}
+use borrow.Author.Tests.{le-leb, lt-leb}
+use lib.Dec.{leb}
+use lib.ListN.{length, drop, replicate, length-append}
+use lib.Seq.{drop-at, drop-drop, paste}
+use Rattle.answer.specs.declared.Answer.{Answer}
+use Rattle.answer.specs.declared.Answer.the-variants.{Done, Table, Source, Room}
+use Rattle.datatype.specs.Datatype.{Datatype, size}
+use Rattle.datatype.proofs.Matches.{size-most}
+use Rattle.table.specs.Table.{sizeWord, decode, typeAt}
+use Rattle.table.specs.Words.{Reads}
+use Rattle.table.proofs.Made.{node-size}
+use Rattle.sheet.specs.declared.SheetRead.{SheetRead}
+use Rattle.sheet.specs.declared.SheetRead.the-variants.{Types, Faulty}
+use Rattle.sheet.specs.Sheet.{Sheet, sheetOf}
+use Rattle.sheet.specs.Sheet.Sheet.{ofType, faultyAt}
+use Rattle.sheet.specs.Read.{ReadsSheet}
+use Rattle.sheet.proofs.Types.{sheet-fault, sheet-type, type-formed}
+use Rattle.convert.specs.Run.{cleared, tableAfter}
+use Rattle.leaves.specs.LeafList.{leafLines, leafList, listAnswer, answerOf, listAfter}
+use Rattle.leaves.specs.Lines.{header, written, Wrote, Lists}
+use Rattle.leaves.proofs.Writing.{written-is, written-append, wrote}
+
+-- ---- the header and the lines
+
+pub list-wrote : (d : List ℕ) {e f : List ℕ} {m : ℕ} (lines : List ℕ) → 14 + length lines ≤ length d → (m ≡ 14) × (e ≡ paste d 0 header 14) → f ≡ written e m lines
+    → f ≡ written d 0 (header ++ lines)
+list-wrote d {e} {f} {m} lines h p q =
+    let room : 0 + length header ≤ length d = omega arith in
+    let first : Wrote d 0 header e m = wrote d 0 room p in
+    q ∙ rw (first .ends, first .is) (written-append d 0 header room lines)
+
+written-front : (d r : List ℕ) → written d 0 r ≡ r ++ drop (length r) d
+written-front d r = let e : 0 + length r ≡ length r = omega arith in written-is d 0 r ∙ ap (λ (n : ℕ). r ++ drop n d) e
+
+-- ---- a type
+
+size-decode : (f : ℕ) (w t : List ℕ) (i : ℕ) → size (decode f w t i) ≡ sizeWord w i
+unfolding decode
+size-decode zero w t i = refl
+size-decode (suc f) w t i = node-size (decode f w t) w t i
+
+module _ (w t : List ℕ) (i : ℕ) {z n : ℕ} (sized : Reads (sizeWord w i) z) (counted : n ≡ length (leafLines (typeAt w t i) 0 z)) where
+  T : Datatype
+  T = typeAt w t i
+
+  list-is : leafList T ≡ header ++ leafLines T 0 z
+  unfolding leafList T
+  list-is = let e : size (typeAt w t i) ≡ z = size-decode 64 w t i ∙ sym (sized .is) in ap (λ (k : ℕ). header ++ leafLines (typeAt w t i) 0 k) e
+
+  list-length : length (leafList T) ≡ 14 + n
+  unfolding T
+  list-length = ap length list-is ∙ length-append header (leafLines T 0 z) ∙ omega (arith, counted)
+
+  pub lists-room : (d : List ℕ) → length d < 14 + n → Lists (ofType (typeAt w t i)) d d Room
+  unfolding T
+  lists-room d h = record { answer = rw (lt-leb (length (leafList T)) (length d) (omega (arith, list-length))) refl; list = refl }
+
+  pub lists-done : (d : List ℕ) {f : List ℕ} → 14 + n ≤ length d → f ≡ written d 0 (header ++ leafLines (typeAt w t i) 0 z) → Lists (ofType (typeAt w t i)) d f (Done (14 + n))
+  unfolding T
+  lists-done d h e =
+      record {
+        answer = rw (le-leb (length (leafList T)) (length d) (omega (arith, list-length))) (ap Done (sym list-length));
+        list = e ∙ ap (λ (l : List ℕ). written d 0 l) (sym list-is) ∙ written-front d (leafList T);
+      }
+
+-- ---- a sheet
+
+module _ (t w : List ℕ) {r : SheetRead} (read : ReadsSheet t w r) where
+  module _ {n m : ℕ} (e : r ≡ Types n m) where
+    types : ReadsSheet t w (Types n m)
+    types = rw e at read
+
+    pub type-some : 1 ≤ n
+    type-some = types .stands .some
+
+    pub type-small : sizeWord w (n - 1) ≤ 4096
+    type-small = rw (size-decode 64 w t (n - 1)) at (size-most (typeAt w t (n - 1)) (type-formed t w n m types))
+
+    pub sheet-lists : {d f : List ℕ} {a : Answer} → ((u : List ℕ) → Lists (ofType (typeAt w u (n - 1))) d f a) → Lists (sheetOf t) d f a
+    sheet-lists h = rw (sheet-type t w n m types) (h t)
+
+  pub fault-lists : {k : ℕ} → r ≡ Faulty k → (d : List ℕ) → Lists (sheetOf t) d d (Source k)
+  fault-lists {k} e d = rw (sheet-fault t w k (rw e at read)) record { answer = refl; list = refl }
+
+pub ruleset sheet-laws = (needs, type-some, type-small, sheet-lists, fault-lists)
+
+-- ---- the call
+
+module _ (s d : List ℕ) (n : ℕ) where
+  pub short-answer : n < 8192 → Table ≡ answerOf s (length d) n
+  unfolding answerOf
+  short-answer h = rw (lt-leb 8192 n h)
+
+  pub short-list : n < 8192 → d ≡ listAfter s d n
+  unfolding listAfter
+  short-list h = rw (← (short-answer h)) refl
+
+  module _ {f : List ℕ} {r : Answer} (h : 8192 ≤ n) (lists : Lists (sheetOf s) d f r) where
+    pub long-answer : r ≡ answerOf s (length d) n
+    unfolding answerOf
+    long-answer = rw (le-leb 8192 n h) (lists .answer)
+
+    pub long-list : f ≡ listAfter s d n
+    unfolding listAfter
+    long-list = rw (← long-answer) (lists .list)
+
+-- ---- the table
+
+list-clears : (s : Sheet) (n : ℕ) (t : List ℕ) → tableAfter (listAnswer s n) t ≡ cleared t
+list-clears (faultyAt k) n t = refl
+list-clears (ofType T) n t = go (leb (length (leafList T)) n)
+  where
+    go : (x : Bool) → tableAfter (cond x (Done (length (leafList T))) Room) t ≡ cleared t
+    go true = refl
+    go false = refl
+
+beyond : (n m : ℕ) (e t : List ℕ) → length e ≡ n → drop (n + m) (e ++ drop n t) ≡ drop (n + m) t
+beyond n m e t h = sym (drop-drop m n (e ++ drop n t)) ∙ ap (λ (l : List ℕ). drop m l) (drop-at e (drop n t) n h) ∙ drop-drop m n t
+
+-- the first half came back as e, and then all was cleared
+pub table-done : (t e s : List ℕ) {d f : List ℕ} {r : Answer} → Lists (sheetOf s) d f r → length e ≡ 4096
+    → replicate 8192 0 ++ drop 8192 (e ++ drop 4096 t) ≡ tableAfter r t
+unfolding cleared
+table-done t e s {d} lists h =
+    ap (λ (l : List ℕ). replicate 8192 0 ++ l) (beyond 4096 4096 e t h) ∙ sym (ap (λ (a : Answer). tableAfter a t) (lists .answer) ∙ list-clears (sheetOf s) (length d) t)

@@ -1,0 +1,6 @@
+-- What the proofs of several functions use, and the laws over the definitions.
+mod Writing
+mod Columns
+mod Lines
+mod Answers
+pub mod EachOnce

@@ -1,0 +1,58 @@
+// A line by its columns: its length, and its bytes at a place.
+ghost use mathlib.Core.Path.{_≡_};
+ghost use Prim.Native.Nat.{_+_, _≤_};
+ghost use lib.ListN.{length};
+ghost use Rattle.leaves.specs.Lines.{column, classColumn, columns, Length, Wrote};
+use text::decimal_len;
+use text::put_bytes;
+use text::put_decimal;
+
+fn class_len(class: usize) -> usize
+    ensures { λ r. ⌜ (r ≡ length (classColumn class)) × (r ≤ 5) ⌝ }
+{
+    if class == 2 {
+        5
+    } else if class == 1 {
+        5
+    } else {
+        4
+    }
+}
+
+// The length of the line of a leaf of so many bytes at byte b.
+pub fn line_len(b: u32, size: u32, class: usize) -> usize
+    ensures { λ r. ⌜ Length (columns b size class) r ⌝ }
+{
+    decimal_len(b) + 1 + decimal_len(size) + 1 + class_len(class)
+}
+
+fn put_class(list: &mut [u8], at: usize, class: usize) -> usize
+    requires { ⌜ at + length (classColumn class) ≤ length (now list) ⌝ }
+    ensures { λ r. ⌜ Wrote (now (list .entry)) at (classColumn class) (now (list .exit)) r ⌝ }
+{
+    if class == 2 {
+        return put_bytes(list, at, b"enum\n");
+    }
+    if class == 1 {
+        return put_bytes(list, at, b"bits\n");
+    }
+    put_bytes(list, at, b"int\n")
+}
+
+fn put_column(list: &mut [u8], at: usize, n: u32) -> usize
+    requires { ⌜ at + length (column n) ≤ length (now list) ⌝ }
+    ensures { λ r. ⌜ Wrote (now (list .entry)) at (column n) (now (list .exit)) r ⌝ }
+{
+    let end = put_decimal(list, at, n);
+    put_bytes(list, end, b"\t")
+}
+
+// Writes the line of a leaf of so many bytes at byte b.
+pub fn put_line(list: &mut [u8], at: usize, b: u32, size: u32, class: usize) -> usize
+    requires { ⌜ at + length (columns b size class) ≤ length (now list) ⌝ }
+    ensures { λ r. ⌜ Wrote (now (list .entry)) at (columns b size class) (now (list .exit)) r ⌝ }
+{
+    let second = put_column(list, at, b);
+    let third = put_column(list, second, size);
+    put_class(list, third, class)
+}
