@@ -1,0 +1,51 @@
+-- `convert::copying::convert_passed` meets its contract. Assumes nothing.
+use borrow.Author.Needs.{needs}
+use Rattle.convert.proofs.Parts.{job}
+use Rattle.convert.proofs.copying.convert_passed.Statement.{statement}
+use Rattle.convert.proofs.copying.convert_passed.Tie as tie
+
+slice-aggregate-plan : tie.Need-slice-aggregate-plan
+slice-aggregate-plan c = search needs
+
+plan-requires : tie.Need-plan-requires
+plan-requires c κs = search needs
+
+slice-aggregate-translations : tie.Need-slice-aggregate-translations
+slice-aggregate-translations c = search needs
+
+translations-requires : tie.Need-translations-requires
+translations-requires c κs = search needs
+
+slice-aggregate-convert-planned : tie.Need-slice-aggregate-convert-planned
+slice-aggregate-convert-planned c = search needs
+
+slice-aggregate-convert-planned-2 : tie.Need-slice-aggregate-convert-planned-2
+slice-aggregate-convert-planned-2 c = search needs
+
+convert-planned-requires : tie.Need-convert-planned-requires
+convert-planned-requires c κs =
+    let pre = c .before .before .before .before .before .before .before .before .before .before .before .before .before .before .before .pre in
+    (job _ _ _ _ _ _ _ _ _ _ _ _ (pre .0) (search needs) (c .before .before .before .before .before .before .before .plan2 .ensures) (c .before .before .before .before .translations .ensures), pre .1, pre .2, pre .3, pre .4)
+
+same-length : tie.Need-same-length
+same-length c = search needs
+
+returns : tie.Need-returns
+unfolding job
+returns c =
+    c .before .before .convert-planned .ensures
+    (job _ _ _ _ _ _ _ _ _ _ _ _ (c .before .before .before .before .before .before .before .before .before .before .before .before .before .before .before .before .before .before .pre .0) (search needs) (c .before .before .before .before .before .before .before .before .before .before .plan2 .ensures) (c .before .before .before .before .before .before .before .translations .ensures))
+
+pub convert-passed-spec : {M : Type 1} → statement M
+convert-passed-spec =
+    tie.close
+    (tie.spec
+    slice-aggregate-plan
+    plan-requires
+    slice-aggregate-translations
+    translations-requires
+    slice-aggregate-convert-planned
+    slice-aggregate-convert-planned-2
+    convert-planned-requires
+    same-length
+    returns)

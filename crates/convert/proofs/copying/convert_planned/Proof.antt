@@ -1,0 +1,60 @@
+-- `convert::copying::convert_planned` meets its contract. Assumes nothing.
+use native.Mathlib.Omega.{arith}
+use borrow.Author.Needs.{needs}
+use Rattle.convert.specs.Run.Form.{copying}
+use Rattle.convert.proofs.Parts.{clamps, stops-at, goes-on}
+use Rattle.convert.proofs.copying.convert_planned.Statement.{statement}
+use Rattle.convert.proofs.copying.convert_planned.Tie as tie
+
+copy-records-requires : tie.Need-copy-records-requires
+copy-records-requires c κs = search needs
+
+same-length : tie.Need-same-length
+same-length c = search needs
+
+returns : tie.Need-returns
+returns c = λ j. clamps copying _ _ _ (j .source) (j .destination) _ _ _ (c .before .before .before .before .if1 .taken) (c .before .before .copy-records .ensures j)
+
+first-exception-requires : tie.Need-first-exception-requires
+first-exception-requires c κs = search needs
+
+enum-known-i : tie.Need-enum-known-i
+enum-known-i c = search needs
+
+enum-told : tie.Need-enum-told
+enum-told c = search needs
+
+copy-records-requires-2 : tie.Need-copy-records-requires-2
+copy-records-requires-2 c κs = search needs
+
+returns-2 : tie.Need-returns-2
+returns-2 c =
+    let else = c .before .before .before .before in
+    λ j.
+    stops-at copying _ _ _ (j .source) (j .destination) _ _ (omega (arith, else .if1 .left, else .before .before .before .before .before .before .before .pre .1)) (j .sourceSize) _
+    (c .before .before .before .first-exception .ensures _ j) (c .before .i .given .1)
+
+same-length-2 : tie.Need-same-length-2
+same-length-2 c = search needs
+
+returns-3 : tie.Need-returns-3
+returns-3 c =
+    let else = c .before .before .before .before .before .before .before in
+    λ j.
+    goes-on copying _ _ _ (j .source) (j .destination) _ _ (omega (arith, else .if1 .left, else .before .before .before .before .before .before .before .pre .1)) (j .sourceSize) _
+    (c .before .before .before .before .before .before .first-exception .ensures _ j) _ _ (c .before .before .before .before .enum-told .given .1) (c .before .before .copy-records2 .ensures j)
+
+pub convert-planned-spec : {M : Type 1} → statement M
+convert-planned-spec =
+    tie.close
+    (tie.spec
+    copy-records-requires
+    same-length
+    returns
+    first-exception-requires
+    enum-known-i
+    enum-told
+    copy-records-requires-2
+    returns-2
+    same-length-2
+    returns-3)
