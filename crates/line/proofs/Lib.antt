@@ -3,4 +3,3 @@ pub mod Answers
 pub mod Readings
 pub mod Arrays
 pub mod FirstWords
-pub mod Callers

@@ -4,5 +4,4 @@ mod Rows
 mod LeafSteps
 mod Walks
 mod Turns
-pub mod Leaves
 mod Entries

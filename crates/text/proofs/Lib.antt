@@ -3,4 +3,3 @@ pub mod Places
 pub mod Scans
 pub mod Numbers
 pub mod Decimals
-pub mod Answers
