@@ -125,13 +125,29 @@ pub fn load(s: &[u8], at: usize, size: usize, order: Order) -> u64
     }
 }
 
+// Some bits of the eight bytes of s from index at on, whose bit 0 is at the lowest address.
+pub fn bits_le(s: &[u8], at: usize, shift: u32, precision: u32) -> u64
+    requires { ⌜ (at + 8 ≤ length (now s)) × (shift < 64) × (precision ≤ 64) ⌝ }
+    ensures { λ r. ⌜ (r ≡ field shift precision (container Order.LE (take 8 (drop at (now (s .entry)))))) × (r < 2 ^ precision) ⌝ }
+{
+    low_bits(le8(s, at) >> shift, precision)
+}
+
+// The same where bit 0 is at the highest address.
+pub fn bits_be(s: &[u8], at: usize, shift: u32, precision: u32) -> u64
+    requires { ⌜ (at + 8 ≤ length (now s)) × (shift < 64) × (precision ≤ 64) ⌝ }
+    ensures { λ r. ⌜ (r ≡ field shift precision (container Order.BE (take 8 (drop at (now (s .entry)))))) × (r < 2 ^ precision) ⌝ }
+{
+    low_bits(be8(s, at) >> shift, precision)
+}
+
 // The significant bits of a place, by one read of eight bytes.
 pub fn window(s: &[u8], at: usize, size: usize, order: Order, offset: u32, precision: u32) -> u64
     requires { ⌜ (at + 8 ≤ length (now s)) × (size ≤ 8) × (1 ≤ precision) × (offset + precision ≤ 8 * size) ⌝ }
     ensures { λ r. ⌜ (r ≡ field offset precision (container order (take size (drop at (now (s .entry)))))) × (r < 2 ^ precision) ⌝ }
 {
     match order {
-        Order::LE => low_bits(le8(s, at) >> offset, precision),
-        Order::BE => low_bits(be8(s, at) >> (64 - 8 * (size as u32) + offset), precision),
+        Order::LE => bits_le(s, at, offset, precision),
+        Order::BE => bits_be(s, at, 64 - 8 * (size as u32) + offset, precision),
     }
 }

@@ -44,6 +44,13 @@ fn put_one(d: &mut [u8], at: usize, size: usize, order: Order, c: u64, i: usize)
     d[j] = byte_of(c, ByteAt(k));
 }
 
+fn put1(d: &mut [u8], at: usize, order: Order, c: u64)
+    requires { ⌜ at + 1 ≤ length (now d) ⌝ }
+    ensures { λ _. ⌜ now (d .exit) ≡ paste (now (d .entry)) at (contained order 1 c) 1 ⌝ }
+{
+    put_one(d, at, 1, order, c, 0);
+}
+
 fn put2(d: &mut [u8], at: usize, order: Order, c: u64)
     requires { ⌜ at + 2 ≤ length (now d) ⌝ }
     ensures { λ _. ⌜ now (d .exit) ≡ paste (now (d .entry)) at (contained order 2 c) 2 ⌝ }
@@ -83,6 +90,7 @@ fn put_le(d: &mut [u8], at: usize, size: usize, c: u64)
     ensures { λ _. ⌜ now (d .exit) ≡ paste (now (d .entry)) at (contained Order.LE size c) size ⌝ }
 {
     match size {
+        1 => put1(d, at, Order::LE, c),
         2 => put2(d, at, Order::LE, c),
         4 => put4(d, at, Order::LE, c),
         8 => put8(d, at, Order::LE, c),
@@ -95,6 +103,7 @@ fn put_be(d: &mut [u8], at: usize, size: usize, c: u64)
     ensures { λ _. ⌜ now (d .exit) ≡ paste (now (d .entry)) at (contained Order.BE size c) size ⌝ }
 {
     match size {
+        1 => put1(d, at, Order::BE, c),
         2 => put2(d, at, Order::BE, c),
         4 => put4(d, at, Order::BE, c),
         8 => put8(d, at, Order::BE, c),

@@ -25,6 +25,7 @@ use Rattle.records.specs.Records.{recordAt, readings, exceptions}
 use Rattle.records.specs.Plan.{planOf, Raised, firstBy}
 use Rattle.records.specs.Plan.Raised.{nowhere, at}
 use Rattle.records.specs.PlanWords.{Job, Translates, planWord}
+use Rattle.records.specs.PlanEntries.{EntriesPut}
 use Rattle.records.proofs.Plans.{plan-first}
 use Rattle.paths.specs.Plan.{Planned}
 use Rattle.loops.specs.declared.Stop.{Stop}
@@ -90,9 +91,9 @@ module _ (form : Form) (n : ℕ) (source background : List ℕ) (S D : Datatype)
 
 -- ---- the plan is made
 
-unfoldable pub job : (ss ws : List ℕ) (i : ℕ) (ds wd : List ℕ) (k s d : ℕ) (before plan to : List ℕ) (n : ℕ) → Both ss ws i ds wd k s d → length before ≡ 16384
-    → Planned ws ss i wd ds k before plan n → Translates to ws ss wd ds → Job s d plan n ws wd to
-job ss ws i ds wd k s d before plan to n both long planned translates =
+unfoldable pub job : (ss ws : List ℕ) (i : ℕ) (ds wd : List ℕ) (k s d : ℕ) (before plan mid to : List ℕ) (n : ℕ) → Both ss ws i ds wd k s d → length before ≡ 16384
+    → Planned ws ss i wd ds k before plan n → Translates mid ws ss wd ds → length mid ≡ 65536 → EntriesPut mid plan n ws wd to → Job s d plan n ws wd to
+job ss ws i ds wd k s d before plan mid to n both long planned translates aids put =
     record {
       source = typeAt ws ss i;
       destination = typeAt wd ds k;
@@ -106,7 +107,10 @@ job ss ws i ds wd k s d before plan to n both long planned translates =
       entries = planned .entries;
       sourceRows = λ e h. both .sourceRows (planWord plan e 2);
       destinationRows = λ e h. both .destinationRows (planWord plan e 3);
-      translates = translates;
+      translates = λ d j hd hj class inside. put .below (d * 256 + j) (omega arith) ∙ translates d j hd hj class inside;
+      most = planned .most;
+      words = omega (arith, put .long, planned .most);
+      easy = put .each;
     }
 
 -- ---- checks 5 to 7

@@ -82,9 +82,10 @@ fn convert_passed(
     ensures { λ r. ⌜ Leaves inPlace handling c (now (buffer .entry)) (now (background .entry)) (passed (typeAt (now (ws .entry)) (now (ss .entry)) i) (typeAt (now (wd .entry)) (now (ds .entry)) k)) r (now (buffer .exit)) ⌝ }
 {
     let mut plan = [0u32; 16384];
-    let mut to = [0u32; 16384];
+    let mut to = [0u32; 65536];
     let n = paths::plan::plan(ws, ss, i, wd, ds, k, &mut plan);
     records::names::translations(ws, ss, wd, ds, &mut to);
+    records::words::put_entries(&plan, n, ws, wd, &mut to);
     convert_planned(c, handling, buffer, background, s, d, &plan, n, ws, wd, &to)
 }
 

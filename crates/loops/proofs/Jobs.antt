@@ -32,6 +32,9 @@ module _ {s d : ℕ} {plan : List ℕ} {n : ℕ} {ws wd to : List ℕ} (j : Job 
         sourceRows = j .sourceRows;
         destinationRows = j .destinationRows;
         translates = j .translates;
+        most = j .most;
+        words = j .words;
+        easy = j .easy;
       }
 
   pub job-written : (r x : List ℕ) → s ≤ length r → d ≤ length x

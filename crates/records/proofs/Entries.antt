@@ -14,7 +14,7 @@ use Rattle.records.specs.declared.Raising.the-variants.{At, Nowhere}
 use Rattle.records.specs.Record.{raises}
 use Rattle.records.specs.Plan.{Entry, becomes, written, raisedBy, orElse, firstBy, Sound, AllSound}
 use Rattle.records.specs.PlanWords.{planWord, entryAt, entriesFrom, entriesAt, Pair, pairBecomes, Ready, entriesOf}
-use Rattle.records.specs.PlanEntries.{wordsAt, raisingOf}
+use Rattle.records.specs.PlanEntries.{wordsAt, raisingOf, EntryReady}
 use Rattle.records.proofs.LeafSteps.{leaf-layout}
 
 -- ---- the list of entries
@@ -67,12 +67,16 @@ module _ (s d : ℕ) (plan : List ℕ) (n : ℕ) (ws wd to : List ℕ) (p : Read
   pub entry-room : 4 * i + 4 ≤ length plan
   entry-room = omega (arith, p .room)
 
-  pub entry-read : (e : PlanEntry) → e ≡ wordsAt plan i → Pair (e .source) (e .destination) ws wd to × (e .from + layoutAt ws (e .source) .size .0 ≤ s)
-  entry-read e q = rw (q, ← (leaf-layout ws (p .sourceText) (planWord plan i 2))) (pair, sound .read)
-
-  pub entry-fits : (e : PlanEntry) → e ≡ wordsAt plan i
-      → Pair (e .source) (e .destination) ws wd to × (e .from + layoutAt ws (e .source) .size .0 ≤ s) × (e .to + layoutAt wd (e .destination) .size .0 ≤ d)
-  entry-fits e q = (entry-read e q .0, entry-read e q .1, rw (q, ← (leaf-layout wd (p .destinationText) (planWord plan i 3))) (sound .write))
+  pub entry-ready : (e : PlanEntry) → e ≡ wordsAt plan i → EntryReady s d e i ws wd to
+  entry-ready e q =
+      rw q (record {
+        pair = pair;
+        read = rw (← (leaf-layout ws (p .sourceText) (planWord plan i 2))) (sound .read);
+        write = rw (← (leaf-layout wd (p .destinationText) (planWord plan i 3))) (sound .write);
+        few = omega (arith, p .most);
+        words = omega (arith, p .words);
+        easy = p .easy i h;
+      })
 
 -- ---- a record written entry by entry
 

@@ -99,7 +99,7 @@ leaf-enum : (w t : List ℕ) (k : ℕ) → classWord w k ≡ 2 → leafOfType w 
 unfolding leafOfType
 leaf-enum w t k e = rw (eq-eqb (classWord w k) 2 e)
 
-leaf-plain : (w t : List ℕ) (k : ℕ) → (classWord w k ≡ 2 → ⊥) → leafOfType w t k ≡ atomic (layoutAt w k)
+pub leaf-plain : (w t : List ℕ) (k : ℕ) → (classWord w k ≡ 2 → ⊥) → leafOfType w t k ≡ atomic (layoutAt w k)
 unfolding leafOfType
 leaf-plain w t k not = rw (ne-eqb (classWord w k) 2 not)
 

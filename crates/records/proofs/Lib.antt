@@ -8,3 +8,4 @@ pub mod Plans
 pub mod LeafSteps
 pub mod Entries
 pub mod Translations
+pub mod EasyLeaves

@@ -14,6 +14,7 @@ use Rattle.table.specs.declared.Found.{Found}
 use Rattle.table.specs.declared.Found.the-variants.{At, Missing}
 use Rattle.table.specs.Table.{classWord, firstWord, rowsWord, layoutAt, nameAt, symbolsAt}
 use Rattle.table.specs.Rows.{rowNamed}
+use Rattle.easy.specs.Words.{EasyAt}
 use Rattle.records.specs.Leaf.{numberIn, converted}
 use Rattle.records.specs.Plan.{Entry, planOf, AllSound}
 
@@ -62,6 +63,17 @@ Translates to ws ts wd td =
     (d j : ℕ) → d < 64 → j < 256 → classWord wd d ≡ 2 → RowsInside wd d
     → getD to (d * 256 + j) 0 ≡ rowCode (rowNamed wd td (nameAt ws ts j) (firstWord wd d) (rowsWord wd d))
 
+-- ---- easy leaves
+
+-- where the words of entry i begin in `to`
+abbrev pub easyPlace : ℕ → ℕ
+easyPlace i = 32768 + 8 * i
+
+-- the words of entry i, from type s to type d: the first is 0, or they are those of an easy pair
+abbrev pub EasyEntry : List ℕ → ℕ → List ℕ → List ℕ → ℕ → ℕ → Type 0
+EasyEntry to i ws wd s d =
+    (getD to (easyPlace i) 0 ≡ 0 → ⊥) → (classWord wd d ≡ 2 → ⊥) × EasyAt (layoutAt ws s) (layoutAt wd d) to (easyPlace i)
+
 -- ---- what the words have to stand for: the texts are in no word, and no code looks at them
 
 -- the leaves of types s and d
@@ -89,6 +101,9 @@ pub record Ready (s d : ℕ) (plan : List ℕ) (n : ℕ) (ws wd to : List ℕ) :
   pub sourceRows : (i : ℕ) → i < n → RowsInside ws (planWord plan i 2)
   pub destinationRows : (i : ℕ) → i < n → RowsInside wd (planWord plan i 3)
   pub translates : Translates to ws sourceText wd destinationText
+  pub most : n ≤ 4096
+  pub words : easyPlace n ≤ length to
+  pub easy : (i : ℕ) → i < n → EasyEntry to i ws wd (planWord plan i 2) (planWord plan i 3)
 
 abbrev pub entriesOf : {s d : ℕ} {plan : List ℕ} {n : ℕ} {ws wd to : List ℕ} → Ready s d plan n ws wd to → List Entry
 entriesOf {plan = plan} {n = n} {ws = ws} {wd = wd} p = entriesAt plan n ws (p .sourceText) wd (p .destinationText)
@@ -108,3 +123,6 @@ pub record Job (s d : ℕ) (plan : List ℕ) (n : ℕ) (ws wd to : List ℕ) : T
   pub sourceRows : (i : ℕ) → i < n → RowsInside ws (planWord plan i 2)
   pub destinationRows : (i : ℕ) → i < n → RowsInside wd (planWord plan i 3)
   pub translates : Translates to ws sourceText wd destinationText
+  pub most : n ≤ 4096
+  pub words : easyPlace n ≤ length to
+  pub easy : (i : ℕ) → i < n → EasyEntry to i ws wd (planWord plan i 2) (planWord plan i 3)

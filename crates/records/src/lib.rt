@@ -2,6 +2,7 @@
 pub mod leaf;
 pub mod names;
 pub mod record;
+pub mod words;
 
 // The words of one entry of the plan.
 pub struct PlanEntry {

@@ -1,5 +1,6 @@
 // Which rows of the destination's enums have the names of the source's rows: worked out once a call, so that no name is compared for a record.
 ghost use mathlib.Core.Path.{_≡_};
+ghost use Prim.Native.Nat.{_≤_};
 ghost use lib.ListN.{length};
 ghost use Rattle.table.specs.Table.{classWord, firstWord, rowsWord, nameAt};
 ghost use Rattle.table.specs.Rows.{rowNamed};
@@ -31,7 +32,7 @@ fn translation(ws: &[u32], ts: &[u8], wd: &[u32], td: &[u8], d: usize, j: usize)
 
 // Word d × 256 + j for each destination type d and each source row j.
 pub fn translations(ws: &[u32], ts: &[u8], wd: &[u32], td: &[u8], to: &mut [u32])
-    requires { ⌜ length (now to) ≡ 16384 ⌝ }
+    requires { ⌜ 16384 ≤ length (now to) ⌝ }
     ensures { λ _. ⌜ Translates (now (to .exit)) (now (ws .entry)) (now (ts .entry)) (now (wd .entry)) (now (td .entry)) ⌝ }
 {
     let mut k: usize = 0;

@@ -4,28 +4,50 @@ ghost use Prim.Native.Nat.{ℕ, _+_, _*_, _≤_, _<_};
 ghost use lib.ListN.{length};
 ghost use Rattle.records.specs.Record.{raises};
 ghost use Rattle.records.specs.Plan.{written, raisedBy, firstBy};
-ghost use Rattle.records.specs.PlanWords.{Ready, entriesOf};
-ghost use Rattle.records.specs.PlanEntries.{wordsAt, raisingOf};
+ghost use Rattle.number.specs.Place.{stored};
+ghost use Rattle.table.specs.Table.{layoutAt};
+ghost use Rattle.records.specs.PlanWords.{Pair, pairBecomes, Ready, entriesOf};
+ghost use Rattle.records.specs.PlanEntries.{EntryReady, raisingOf};
 use crate::PlanEntry;
 use crate::Raising;
 use crate::leaf::convert_leaf;
 use crate::leaf::leaf_kind;
-use table::read::word;
+use crate::words::entry;
+use easy::at;
+use easy::convert_easy;
 
-fn entry(plan: &[u32], i: usize) -> PlanEntry
-    requires { ⌜ 4 * i + 4 ≤ length (now plan) ⌝ }
-    ensures { λ r. ⌜ (r ≡ wordsAt (now (plan .entry)) i) × (r .to < 4294967296) ⌝ }
+// Converts the leaf of entry i, which is e: an easy one by its words where eight bytes are there to be read. The kind of exception is returned.
+fn write_entry(
+    src: &[u8],
+    dst: &mut [u8],
+    e: PlanEntry,
+    i: usize,
+    ws: &[u32],
+    wd: &[u32],
+    to: &[u32],
+) -> u32
+    requires { ⌜ EntryReady (length (now src)) (length (now dst)) e i (now ws) (now wd) (now to) ⌝ }
+    ensures { λ r. ⌜ ((p : Pair (e .source) (e .destination) (now (ws .entry)) (now (wd .entry)) (now (to .entry))) → (r ≡ pairBecomes p (e .from) (now (src .entry)) .kind) × (now (dst .exit) ≡ stored (layoutAt (now (wd .entry)) (e .destination)) (e .to) (pairBecomes p (e .from) (now (src .entry)) .raw) (now (dst .entry)))) ⌝ }
 {
-    let to = word(plan, 4 * i);
-    let from = word(plan, 4 * i + 1);
-    let source = word(plan, 4 * i + 2);
-    let destination = word(plan, 4 * i + 3);
-    PlanEntry {
-        to,
-        from,
-        source,
-        destination,
+    let k = 32768 + 8 * i;
+    if at(to, k) != 0 {
+        if 8 <= src.len() - e.from {
+            convert_easy(src, dst, e.to, e.from, to, k);
+            return 0;
+        }
     }
+    convert_leaf(src, dst, e.to, e.from, e.source, e.destination, ws, wd, to)
+}
+
+// The kind of exception that the leaf of entry i raises: an easy one raises none.
+fn entry_kind(src: &[u8], e: PlanEntry, i: usize, ws: &[u32], wd: &[u32], to: &[u32]) -> u32
+    requires { ⌜ ((d : ℕ) × EntryReady (length (now src)) d e i (now ws) (now wd) (now to)) ⌝ }
+    ensures { λ r. ⌜ ((p : Pair (e .source) (e .destination) (now (ws .entry)) (now (wd .entry)) (now (to .entry))) → r ≡ pairBecomes p (e .from) (now (src .entry)) .kind) ⌝ }
+{
+    if at(to, 32768 + 8 * i) != 0 {
+        return 0;
+    }
+    leaf_kind(src, e.from, e.source, e.destination, ws, wd, to)
 }
 
 // 1 where an exception was raised.
@@ -52,7 +74,7 @@ pub fn write_record(
     let mut i: usize = 0;
     while i < n {
         let e = entry(plan, i);
-        let kind = convert_leaf(src, dst, e.to, e.from, e.source, e.destination, ws, wd, to);
+        let kind = write_entry(src, dst, e, i, ws, wd, to);
         raised += counted(kind);
         i += 1;
     }
@@ -74,9 +96,10 @@ pub fn first_raising(
     let mut i: usize = 0;
     while i < n {
         let e = entry(plan, i);
-        let kind = leaf_kind(src, e.from, e.source, e.destination, ws, wd, to);
+        let b = e.to as u32;
+        let kind = entry_kind(src, e, i, ws, wd, to);
         if kind != 0 {
-            return Raising::At(e.to as u32, kind);
+            return Raising::At(b, kind);
         }
         i += 1;
     }

@@ -16,6 +16,15 @@ slice-aggregate-translations c = search needs
 translations-requires : tie.Need-translations-requires
 translations-requires c κs = search needs
 
+slice-aggregate-put-entries : tie.Need-slice-aggregate-put-entries
+slice-aggregate-put-entries c = search needs
+
+slice-aggregate-put-entries-2 : tie.Need-slice-aggregate-put-entries-2
+slice-aggregate-put-entries-2 c = search needs
+
+put-entries-requires : tie.Need-put-entries-requires
+put-entries-requires c κs = search needs
+
 slice-aggregate-convert-planned : tie.Need-slice-aggregate-convert-planned
 slice-aggregate-convert-planned c = search needs
 
@@ -24,8 +33,9 @@ slice-aggregate-convert-planned-2 c = search needs
 
 convert-planned-requires : tie.Need-convert-planned-requires
 convert-planned-requires c κs =
-    let pre = c .before .before .before .before .before .before .before .before .before .before .before .before .before .before .before .pre in
-    (job _ _ _ _ _ _ _ _ _ _ _ _ (pre .0) (search needs) (c .before .before .before .before .before .before .before .plan2 .ensures) (c .before .before .before .before .translations .ensures), pre .1, pre .2, pre .3, pre .4)
+    let t = c .before .before .before .before in
+    let pre = t .before .before .before .before .before .before .before .before .before .before .before .before .before .before .before .pre in
+    (job _ _ _ _ _ _ _ _ _ _ _ _ _ (pre .0) (search needs) (t .before .before .before .before .before .before .before .plan2 .ensures) (t .before .before .before .before .translations .ensures) (search needs) (t .put-entries .ensures), pre .1, pre .2, pre .3, pre .4)
 
 same-length : tie.Need-same-length
 same-length c = search needs
@@ -33,8 +43,10 @@ same-length c = search needs
 returns : tie.Need-returns
 unfolding job
 returns c =
+    let t = c .before .before .before .before .before .before .before in
+    let start = t .before .before .before .before .before .before .before .before .before .before .before .before .before .before .before in
     c .before .before .convert-planned .ensures
-    (job _ _ _ _ _ _ _ _ _ _ _ _ (c .before .before .before .before .before .before .before .before .before .before .before .before .before .before .before .before .before .before .pre .0) (search needs) (c .before .before .before .before .before .before .before .before .before .before .plan2 .ensures) (c .before .before .before .before .before .before .before .translations .ensures))
+    (job _ _ _ _ _ _ _ _ _ _ _ _ _ (start .pre .0) (search needs) (t .before .before .before .before .before .before .before .plan2 .ensures) (t .before .before .before .before .translations .ensures) (search needs) (t .put-entries .ensures))
 
 pub convert-passed-spec : {M : Type 1} → statement M
 convert-passed-spec =
@@ -44,6 +56,9 @@ convert-passed-spec =
     plan-requires
     slice-aggregate-translations
     translations-requires
+    slice-aggregate-put-entries
+    slice-aggregate-put-entries-2
+    put-entries-requires
     slice-aggregate-convert-planned
     slice-aggregate-convert-planned-2
     convert-planned-requires

@@ -10,7 +10,7 @@ use Rattle.records.proofs.names.translations.Tie as tie
 
 abbrev Inv-loop : tie.InvT-loop
 Inv-loop ws ts wd td to₀ k₀ to k =
-    (k ≤ 16384) × (length to ≡ 16384) × ((i : ℕ) → i < k → Word ws ts wd td i (getD to i 0))
+    (k ≤ 16384) × (length to ≡ length to₀) × ((i : ℕ) → i < k → Word ws ts wd td i (getD to i 0))
 
 abbrev μ-loop : tie.MeasureT-loop
 μ-loop ws ts wd td to₀ k₀ to k = 16384 - k

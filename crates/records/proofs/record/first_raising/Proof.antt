@@ -5,7 +5,7 @@ use native.Mathlib.Omega.{arith}
 use lib.ListN.{length}
 use Rattle.records.specs.Plan.{firstBy}
 use Rattle.records.specs.PlanWords.{entriesFrom, Ready, entriesOf}
-use Rattle.records.proofs.Entries.{entry-room, entry-read, first-start, first-turn, first-found, first-end}
+use Rattle.records.proofs.Entries.{entry-room, entry-ready, first-start, first-turn, first-found, first-end}
 use Rattle.records.proofs.record.first_raising.Statement.{statement}
 use Rattle.records.proofs.record.first_raising.Tie as tie
 
@@ -22,17 +22,25 @@ loop-holds c = (omega arith, λ d p. first-start _ _ _ _ _ _ _ p _)
 entry-requires : tie.Need-entry-requires Inv-loop μ-loop
 entry-requires c κs = entry-room _ _ _ _ _ _ _ (c .before .before .before .before .before .before .before .pre .1) (c .before .loop .i) (omega arith)
 
-leaf-kind-requires : tie.Need-leaf-kind-requires Inv-loop μ-loop
-leaf-kind-requires c κs = entry-read _ _ _ _ _ _ _ (c .before .before .before .before .before .before .before .before .pre .1) (c .before .before .loop .i) (omega arith) _ (c .entry .ensures .0)
+cast-b : tie.Need-cast-b Inv-loop μ-loop
+cast-b c = omega (arith, c .before .entry .ensures .1)
 
-cast-t11 : tie.Need-cast-t11 Inv-loop μ-loop
-cast-t11 c = omega (arith, c .before .before .before .entry .ensures .1)
+entry-kind-requires : tie.Need-entry-kind-requires Inv-loop μ-loop
+entry-kind-requires c κs =
+    let l = c .before .before .before in
+    (_, entry-ready _ _ _ _ _ _ _ (l .before .before .before .before .before .before .pre .1) (l .loop .i) (omega arith) _ (c .before .entry .ensures .0))
 
 returns : tie.Need-returns Inv-loop μ-loop
-returns c = λ d p. first-found _ _ _ _ _ _ _ p _ (c .before .before .before .before .before .loop .i) _ (omega arith) (c .before .before .before .before .before .loop .inv .1 d p) (c .before .before .before .entry .ensures .0) (c .before .before .leaf-kind .ensures) (c .before .if1 .taken)
+returns c =
+    let e = c .before .before .before in
+    let l = e .before .before in
+    λ d p. first-found _ _ _ _ _ _ _ p _ (l .loop .i) _ (omega arith) (l .loop .inv .1 d p) (e .entry .ensures .0) (c .before .entry-kind .ensures) (c .if1 .taken)
 
 loop-again : tie.Need-loop-again Inv-loop μ-loop
-loop-again c = (omega arith, λ d p. first-turn _ _ _ _ _ _ _ p _ (c .before .before .before .before .loop .i) _ (omega arith) (c .before .before .before .before .loop .inv .1 d p) (c .before .before .entry .ensures .0) (c .before .leaf-kind .ensures) (c .if1 .left))
+loop-again c =
+    let e = c .before .before .before in
+    let l = e .before .before in
+    (omega arith, λ d p. first-turn _ _ _ _ _ _ _ p _ (l .loop .i) _ (omega arith) (l .loop .inv .1 d p) (e .entry .ensures .0) (c .before .entry-kind .ensures) (c .if1 .left))
 
 returns-2 : tie.Need-returns-2 Inv-loop μ-loop
 returns-2 c = λ d p. first-end _ _ _ _ _ _ _ p _ (c .before .loop .i) (omega arith) (c .before .loop .inv .1 d p)
@@ -45,8 +53,8 @@ first-raising-spec =
     μ-loop
     loop-holds
     entry-requires
-    leaf-kind-requires
-    cast-t11
+    cast-b
+    entry-kind-requires
     returns
     (λ c. omega arith)
     (λ c. omega arith)

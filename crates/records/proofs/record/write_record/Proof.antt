@@ -5,7 +5,7 @@ use native.Mathlib.Omega.{arith}
 use lib.ListN.{length}
 use borrow.Author.Needs.{needs}
 use Rattle.records.specs.PlanWords.{Ready}
-use Rattle.records.proofs.Entries.{entry-room, entry-fits, Left, left-start, left-turn, left-end}
+use Rattle.records.proofs.Entries.{entry-room, entry-ready, Left, left-start, left-turn, left-end}
 use Rattle.records.proofs.record.write_record.Statement.{statement}
 use Rattle.records.proofs.record.write_record.Tie as tie
 
@@ -22,15 +22,15 @@ loop-holds c = (omega arith, refl, omega arith, λ p. left-start _ _ _ _ _ _ _ p
 entry-requires : tie.Need-entry-requires Inv-loop μ-loop
 entry-requires c κs = entry-room _ _ _ _ _ _ _ (c .before .before .before .before .before .before .before .before .pre) (c .before .loop .i) (omega arith)
 
-convert-leaf-requires : tie.Need-convert-leaf-requires Inv-loop μ-loop
-convert-leaf-requires c κs =
-    let fits = entry-fits _ _ _ _ _ _ _ (c .before .before .before .before .before .before .before .before .before .before .pre) (c .before .before .before .loop .i) (omega arith) _ (c .before .entry .ensures .0) in
-    (fits .0, fits .1, omega (arith, fits .2, c .before .before .before .loop .inv .1))
+write-entry-requires : tie.Need-write-entry-requires Inv-loop μ-loop
+write-entry-requires c κs =
+    let l = c .before .before .before in
+    rw (l .loop .inv .1) (entry-ready _ _ _ _ _ _ _ (l .before .before .before .before .before .before .before .pre) (l .loop .i) (omega arith) _ (c .before .entry .ensures .0))
 
 loop-again : tie.Need-loop-again Inv-loop μ-loop
 loop-again c =
     let l = c .before .before .before .before .before .before .before in
-    let call = c .before .before .before .convert-leaf in
+    let call = c .before .before .before .write-entry in
     (omega arith, call .kept .1 .0 ∙ l .loop .inv .1, omega arith, λ p. left-turn _ _ _ _ _ _ _ p _ _ (l .loop .i) (l .loop .raised) _ (l .loop .dst) _ (omega arith) (l .loop .inv .3 p) (c .before .before .before .before .before .entry .ensures .0) (call .ensures) (c .counted .ensures .0))
 
 same-length : tie.Need-same-length Inv-loop μ-loop
@@ -47,7 +47,7 @@ write-record-spec =
     μ-loop
     loop-holds
     entry-requires
-    convert-leaf-requires
+    write-entry-requires
     (λ c κs. search needs)
     (λ c. omega arith)
     (λ c. omega arith)

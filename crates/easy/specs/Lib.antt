@@ -1,0 +1,2 @@
+pub mod Easy
+pub mod Words

@@ -1,0 +1,168 @@
+// Leaves that never raise an exception and need no background: their words, worked out once a call, and their conversion by these words alone.
+ghost use mathlib.Core.Path.{_≡_};
+ghost use Prim.Native.Nat.{_+_, _-_, _*_, _/_, _%_, _^_, _≤_, _<_};
+ghost use lib.ListN.{length, getD, take, drop};
+ghost use Rattle.bits.specs.Container.{container, field};
+ghost use Rattle.number.specs.Number.{numberAt, fitted};
+ghost use Rattle.number.specs.Place.{stored};
+ghost use Rattle.table.specs.Words.{Reads};
+ghost use Rattle.table.specs.Table.{orderOf};
+ghost use mathlib.Core.List.{[], _∷_};
+ghost use Rattle.layout.specs.Layout.{valid, Valid};
+ghost use mathlib.Core.Bool.{_&&_};
+ghost use Rattle.easy.specs.Easy.{inside, easy, shiftOf, carryOf, easyWords, wordsOf, withWords};
+ghost use Rattle.easy.specs.Words.{EasyAt};
+use bits::Order;
+use bits::bits_of;
+use bits::load::bits_be;
+use bits::load::bits_le;
+use bits::shift::ones;
+use layout::Layout;
+use layout::is_valid;
+use table::codes::order_code;
+use table::codes::order_of;
+
+// Word k of w.
+pub fn at(w: &[u32], k: usize) -> usize
+    requires { ⌜ k < length (now w) ⌝ }
+    ensures { λ r. ⌜ Reads (getD (now (w .entry)) k 0) r ⌝ }
+{
+    w[k] as usize
+}
+
+// Some bits of eight bytes, by the word for the order.
+fn raw_by(src: &[u8], a: usize, order: usize, shift: u32, precision: u32) -> u64
+    requires { ⌜ (a + 8 ≤ length (now src)) × (1 ≤ order) × (shift < 64) × (precision ≤ 64) ⌝ }
+    ensures { λ r. ⌜ (r ≡ field shift precision (container (orderOf (order - 1)) (take 8 (drop a (now (src .entry)))))) × (r < 2 ^ precision) ⌝ }
+{
+    if order == 1 {
+        return bits_le(src, a, shift, precision);
+    }
+    bits_be(src, a, shift, precision)
+}
+
+// Converts the leaf at byte a of src into the leaf at byte b of dst, by the words from word k of w on.
+pub fn convert_easy(src: &[u8], dst: &mut [u8], b: usize, a: usize, w: &[u32], k: usize)
+    requires { ⌜ ((l : Layout) × (m : Layout) × EasyAt l m (now w) k × (b + m .size .0 ≤ length (now dst))) × (a + 8 ≤ length (now src)) × (k + 8 ≤ length (now w)) ⌝ }
+    ensures { λ _. ⌜ ((l m : Layout) → EasyAt l m (now (w .entry)) k → b + m .size .0 ≤ length (now (dst .entry)) → now (dst .exit) ≡ stored m b (fitted m (numberAt l a (now (src .entry))) .raw) (now (dst .entry))) ⌝ }
+{
+    let precision = at(w, k + 2) as u32;
+    let raw = raw_by(src, a, at(w, k), at(w, k + 1) as u32, precision);
+    let carry = (at(w, k + 3) + at(w, k + 4) * 4294967296) as u64;
+    let wide = raw + carry * (raw >> (precision - 1));
+    bits::store::store(dst, b, at(w, k + 5), order_of(at(w, k + 6)), wide);
+}
+
+// Whether every number of p bits is one of q bits.
+fn inside(signed: bool, sign: bool, p: u32, q: u32) -> bool
+    ensures { λ r. ⌜ r ≡ inside signed sign p q ⌝ }
+{
+    if signed {
+        if sign {
+            return p <= q;
+        }
+        return false;
+    }
+    if sign {
+        return p < q;
+    }
+    p <= q
+}
+
+// Whether a leaf from l to m never raises an exception and needs no background.
+fn is_easy(l: Layout, m: Layout) -> bool
+    requires { ⌜ Valid m ⌝ }
+    ensures { λ r. ⌜ r ≡ easy l m ⌝ }
+{
+    if m.offset.0 != 0 {
+        return false;
+    }
+    if m.precision != bits_of(m.size).0 {
+        return false;
+    }
+    inside(l.signed, m.signed, l.precision, m.precision)
+}
+
+// How far a number lies above bit 0, where eight bytes are read from its first byte on.
+fn shift_of(l: Layout) -> u32
+    requires { ⌜ Valid l ⌝ }
+    ensures { λ r. ⌜ r ≡ shiftOf (l .order) (l .size .0) (l .offset .0) ⌝ }
+{
+    let order = l.order;
+    match order {
+        Order::LE => l.offset.0,
+        Order::BE => 64 - bits_of(l.size).0 + l.offset.0,
+    }
+}
+
+// What a set sign bit of p bits adds to the same number in q bits.
+fn carry_of(signed: bool, p: u32, q: u32) -> u64
+    requires { ⌜ (p ≤ q) × (q ≤ 64) ⌝ }
+    ensures { λ r. ⌜ r ≡ carryOf signed p q ⌝ }
+{
+    if signed { ones(q) - ones(p) } else { 0 }
+}
+
+// Writes eight words, the last of which is 0, from word k of w on.
+fn put_eight(w: &mut [u32], k: usize, a: u32, b: u32, c: u32, d: u32, e: u32, f: u32, g: u32)
+    requires { ⌜ k + 8 ≤ length (now w) ⌝ }
+    ensures { λ _. ⌜ now (w .exit) ≡ withWords (now (w .entry)) k (a ∷ b ∷ c ∷ d ∷ e ∷ f ∷ g ∷ 0 ∷ []) ⌝ }
+{
+    w[k] = a;
+    w[k + 1] = b;
+    w[k + 2] = c;
+    w[k + 3] = d;
+    w[k + 4] = e;
+    w[k + 5] = f;
+    w[k + 6] = g;
+    w[k + 7] = 0;
+}
+
+// The words of a pair that is easy.
+fn put_easy(w: &mut [u32], k: usize, l: Layout, m: Layout)
+    requires { ⌜ Valid l × Valid m × (l .precision ≤ m .precision) × (k + 8 ≤ length (now w)) ⌝ }
+    ensures { λ _. ⌜ now (w .exit) ≡ withWords (now (w .entry)) k (wordsOf l m) ⌝ }
+{
+    let from = l.order;
+    let to = m.order;
+    let carry = carry_of(l.signed, l.precision, m.precision);
+    let low = (carry % 4294967296) as u32;
+    let high = (carry / 4294967296) as u32;
+    let size = m.size.0 as u32;
+    put_eight(
+        w,
+        k,
+        1 + order_code(from),
+        shift_of(l),
+        l.precision,
+        low,
+        high,
+        size,
+        order_code(to),
+    );
+}
+
+// Whether l and m are valid and easy.
+fn have_words(l: Layout, m: Layout) -> bool
+    ensures { λ r. ⌜ r ≡ (valid l && (valid m && easy l m)) ⌝ }
+{
+    if !is_valid(l) {
+        return false;
+    }
+    if !is_valid(m) {
+        return false;
+    }
+    is_easy(l, m)
+}
+
+// From word k of w on: the words of l and m where they are valid and easy, else zeros.
+pub fn put_words(w: &mut [u32], k: usize, l: Layout, m: Layout)
+    requires { ⌜ k + 8 ≤ length (now w) ⌝ }
+    ensures { λ _. ⌜ now (w .exit) ≡ withWords (now (w .entry)) k (easyWords l m) ⌝ }
+{
+    if have_words(l, m) {
+        put_easy(w, k, l, m);
+        return;
+    }
+    put_eight(w, k, 0, 0, 0, 0, 0, 0, 0);
+}
