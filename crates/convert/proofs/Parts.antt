@@ -3,10 +3,11 @@ use mathlib.Core.Path.{_≡_, refl, sym, ap, subst, _∙_}
 use mathlib.Core.Bool.{Bool, true, false, not, _&&_, false≢true}
 use mathlib.Core.List.{List}
 use mathlib.Core.Option.{Option, none, some}
-use Prim.Native.Nat.{ℕ, zero, suc, _+_, _-_, _*_, _≤_, _<_, max}
+use Prim.Native.Nat.{ℕ, zero, suc, _+_, _-_, _*_, _^_, _≤_, _<_, max}
 use native.Mathlib.Nat.{le-trans, mul-le-mul-left, mul-le-mul-right}
 use native.Mathlib.Numerals.{add-one}
 use native.Mathlib.Omega.{arith}
+use lib.Pow.{pow-mono}
 use borrow.Author.Tests.{le-leb, lt-leb, leb-true, leb-false}
 use lib.Dec.{leb}
 use lib.ListN.{length}
@@ -17,7 +18,7 @@ use Rattle.datatype.specs.Symbols.{onSome}
 use Rattle.datatype.specs.Paths.{hasPath}
 use Rattle.datatype.specs.WellFormed.{WellFormed}
 use Rattle.datatype.proofs.Matches.{size-most}
-use Rattle.table.specs.Table.{typeAt}
+use Rattle.table.specs.Table.{typeAt, layoutAt}
 use Rattle.sheet.specs.Sheet.{sheetOf}
 use Rattle.sheet.specs.Sheet.Sheet.{ofType, faultyAt}
 use Rattle.records.specs.Record.{reading, kindAt, firstRaising}
@@ -25,7 +26,7 @@ use Rattle.records.specs.Records.{recordAt, readings, exceptions}
 use Rattle.records.specs.Plan.{planOf, Raised, firstBy}
 use Rattle.records.specs.Plan.Raised.{nowhere, at}
 use Rattle.records.specs.PlanWords.{Job, Translates, planWord}
-use Rattle.records.specs.PlanEntries.{EntriesPut}
+use Rattle.records.specs.PlanEntries.{NumbersPut, EntriesPut}
 use Rattle.records.proofs.Plans.{plan-first}
 use Rattle.paths.specs.Plan.{Planned}
 use Rattle.loops.specs.declared.Stop.{Stop}
@@ -91,9 +92,9 @@ module _ (form : Form) (n : ℕ) (source background : List ℕ) (S D : Datatype)
 
 -- ---- the plan is made
 
-unfoldable pub job : (ss ws : List ℕ) (i : ℕ) (ds wd : List ℕ) (k s d : ℕ) (before plan mid to : List ℕ) (n : ℕ) → Both ss ws i ds wd k s d → length before ≡ 16384
-    → Planned ws ss i wd ds k before plan n → Translates mid ws ss wd ds → length mid ≡ 65536 → EntriesPut mid plan n ws wd to → Job s d plan n ws wd to
-job ss ws i ds wd k s d before plan mid to n both long planned translates aids put =
+unfoldable pub job : (ss ws : List ℕ) (i : ℕ) (ds wd : List ℕ) (k s d : ℕ) (before plan first mid to : List ℕ) (n : ℕ) → Both ss ws i ds wd k s d → length before ≡ 16384
+    → Planned ws ss i wd ds k before plan n → Translates first ws ss wd ds → length first ≡ 65536 → NumbersPut first ws mid → EntriesPut mid plan n ws wd to → Job s d plan n ws wd to
+job ss ws i ds wd k s d before plan first mid to n both long planned translates words numbers put =
     record {
       source = typeAt ws ss i;
       destination = typeAt wd ds k;
@@ -107,9 +108,13 @@ job ss ws i ds wd k s d before plan mid to n both long planned translates aids p
       entries = planned .entries;
       sourceRows = λ e h. both .sourceRows (planWord plan e 2);
       destinationRows = λ e h. both .destinationRows (planWord plan e 3);
-      translates = λ d j hd hj class inside. put .below (d * 256 + j) (omega arith) ∙ translates d j hd hj class inside;
+      translates = λ d j hd hj class inside. put .below (d * 256 + j) (omega arith) ∙ numbers .below (d * 256 + j) (omega arith) ∙ translates d j hd hj class inside;
+      numbers =
+          λ s bits hs class inside some most fits.
+          let few : 2 ^ layoutAt ws s .precision ≤ 2 ^ 8 = pow-mono most in
+          put .below (16384 + (s * 256 + bits)) (omega arith) ∙ numbers .numbers s bits hs class inside some most fits;
       most = planned .most;
-      words = omega (arith, put .long, planned .most);
+      words = omega (arith, put .long, numbers .long, planned .most);
       easy = put .each;
     }
 

@@ -85,6 +85,7 @@ fn convert_passed(
     let mut to = [0u32; 65536];
     let n = paths::plan::plan(ws, ss, i, wd, ds, k, &mut plan);
     records::names::translations(ws, ss, wd, ds, &mut to);
+    records::names::numbers(ws, &mut to);
     records::words::put_entries(&plan, n, ws, wd, &mut to);
     convert_planned(
         c,

@@ -1,5 +1,5 @@
 -- What the proofs of several functions use, and the laws over the definitions.
-mod Writing
+pub mod Writing
 mod Columns
 mod Lines
 mod Answers

@@ -32,6 +32,7 @@ module _ {s d : ℕ} {plan : List ℕ} {n : ℕ} {ws wd to : List ℕ} (j : Job 
         sourceRows = j .sourceRows;
         destinationRows = j .destinationRows;
         translates = j .translates;
+        numbers = j .numbers;
         most = j .most;
         words = j .words;
         easy = j .easy;

@@ -62,6 +62,7 @@ module _ (s d : ℕ) (plan : List ℕ) (n : ℕ) (ws wd to : List ℕ) (p : Read
         sourceRows = p .sourceRows i h;
         destinationRows = p .destinationRows i h;
         translates = p .translates;
+        numbers = p .numbers;
       }
 
   pub entry-room : 4 * i + 4 ≤ length plan

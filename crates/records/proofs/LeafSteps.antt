@@ -10,6 +10,7 @@ use native.Mathlib.Omega.{arith}
 use lib.Dec.{eqb, ltb}
 use lib.IntN.{ℤ}
 use lib.ListN.{length, getD}
+use lib.Pow.{pow-mono}
 use lib.Signed.{ltZ}
 use borrow.Author.Tests.{eq-eqb, ne-eqb, ltb-true}
 use Rattle.layout.specs.declared.Layout.{Layout}
@@ -32,8 +33,8 @@ use Rattle.table.specs.Words.{Reads}
 use Rattle.table.specs.Rows.{rowNamed, rowNumbered, valueFound, nameFound}
 use Rattle.table.proofs.Lookups.{symbol-named, symbol-numbered}
 use Rattle.records.specs.Leaf.{numberIn, symbols, untranslated, converted}
-use Rattle.records.specs.PlanWords.{leafOfType, RowsInside, rowCode, Pair, pairBecomes}
-use Rattle.records.specs.LeafSteps.{symbolRows, allOnes, codeBits, foundBits}
+use Rattle.records.specs.PlanWords.{leafOfType, RowsInside, rowCode, Numbers, Pair, pairBecomes}
+use Rattle.records.specs.LeafSteps.{symbolRows, allOnes, codeBits, rowOf, foundBits, EnumReady}
 use Rattle.records.proofs.OneLeaf.{converted-lt, listed-in-range}
 
 -- ---- the words of a row
@@ -117,7 +118,7 @@ class-inside w k e = go (ltb k 64) refl e
 
 -- ---- a row that was found is one of those that were looked through
 
-numbered-below : (w : List ℕ) (z : ℤ) (first n j : ℕ) → rowNumbered w z first n ≡ At j → j < first + n
+pub numbered-below : (w : List ℕ) (z : ℤ) (first n j : ℕ) → rowNumbered w z first n ≡ At j → j < first + n
 unfolding rowNumbered
 numbered-below w z first zero j e = let no : _≡_ {A = ℕ} 0 1 = cc in absurd (omega arith)
 numbered-below w z first (suc n) j e = go (numbered-below w z first n j) (sameNumber z (valueAt w (first + n))) e
@@ -202,15 +203,64 @@ becomes-lt : (src : List ℕ) (a s d : ℕ) (ws wd to : List ℕ) (r : Fitted) �
 becomes-lt src a s d ws wd to r p h =
     (h, rw (h p, ← (leaf-layout wd (p .destinationText) d)) (converted-lt (leafOfType ws (p .sourceText) s) (leafOfType wd (p .destinationText) d) (numberIn (leafOfType ws (p .sourceText) s) a src) (p .destination)))
 
-pub enum-becomes : (src : List ℕ) (a s d : ℕ) (ws wd to : List ℕ) {l m : Layout} {c : ℕ} (n : Number) (z : Parts) {r : Fitted} → Pair s d ws wd to
-    → l ≡ layoutAt ws s → m ≡ layoutAt wd d → Reads (classWord wd d) c → c ≡ 2 → meaning n ≡ numberAt l a src → meaning n ≡ signedBy (z .negative) (z .distance)
-    → r ≡ foundBits to wd d (m .precision) (rowNumbered ws (signedBy (z .negative) (z .distance)) (firstWord ws s) (symbolRows ws s))
+pub enum-becomes : (src : List ℕ) (a s d : ℕ) (ws wd to : List ℕ) (l : Layout) (q : ℕ) (n : Number) (z : Parts) {r : Fitted} → EnumReady (length src) a s d ws wd to l q
+    → meaning n ≡ numberAt l a src → meaning n ≡ signedBy (z .negative) (z .distance)
+    → r ≡ foundBits to wd d q (rowNumbered ws (signedBy (z .negative) (z .distance)) (firstWord ws s) (symbolRows ws s))
     → Becomes src a s d ws wd to r
-enum-becomes src a s d ws wd to {l} {m} {c} n z {r} pair el em rc e hn hz hr =
-    becomes-lt src a s d ws wd to r pair
+enum-becomes src a s d ws wd to l q n z {r} ready hn hz hr =
+    becomes-lt src a s d ws wd to r (ready .pair)
     (λ p.
-    let same : signedBy (z .negative) (z .distance) ≡ numberIn (leafOfType ws (p .sourceText) s) a src = rw (leaf-layout ws (p .sourceText) s, ← el, ← hn, ← hz) in
-    hr ∙ rw (em, same) (enum-converted s d ws wd to p (sym (rc .is) ∙ e) (numberIn (leafOfType ws (p .sourceText) s) a src)))
+    let same : signedBy (z .negative) (z .distance) ≡ numberIn (leafOfType ws (p .sourceText) s) a src = rw (leaf-layout ws (p .sourceText) s, ← (ready .layout), ← hn, ← hz) in
+    hr ∙ rw (ready .precision, same) (enum-converted s d ws wd to p (ready .class) (numberIn (leafOfType ws (p .sourceText) s) a src)))
+
+-- the same by the table of rows
+row-back : (f : Found) → rowOf (rowCode f) ≡ f
+row-back (At j) = rw (add-one j)
+row-back Missing = refl
+
+pub code-none-of : (to w : List ℕ) (d p : ℕ) {code : ℕ} {r : Fitted} → code ≡ 0 → r ≡ allOnes p → r ≡ foundBits to w d p (rowOf code)
+code-none-of to w d p e h = rw e h
+
+pub code-some-of : (to w : List ℕ) (d p code : ℕ) {r : Fitted} → (code ≡ 0 → ⊥) → r ≡ codeBits w p (getD to (d * 256 + (code - 1)) 0) → r ≡ foundBits to w d p (rowOf code)
+code-some-of to w d p zero not h = absurd (not refl)
+code-some-of to w d p (suc j) not h = let e : suc j - 1 ≡ j = omega arith in rw e at h
+
+module _ (src : List ℕ) (a s d : ℕ) (ws wd to : List ℕ) (l : Layout) (q : ℕ) (ready : EnumReady (length src) a s d ws wd to l q) {c raw : ℕ} (rc : Reads (classWord ws s) c) (e : c ≡ 2)
+    (few : l .precision ≤ 8) (hw : raw ≡ rawAt l a src) (small : raw < 2 ^ l .precision) where
+  class : classWord ws s ≡ 2
+  class = sym (rc .is) ∙ e
+
+  abbrev found : Found
+  found = rowNumbered ws (valued (layoutAt ws s .signed) (layoutAt ws s .precision) raw) (firstWord ws s) (rowsWord ws s)
+
+  valid-source : Valid (layoutAt ws s)
+  valid-source = leaf-valid ws (ready .pair .sourceText) s (ready .pair .source)
+
+  row-code : {code : ℕ} → Reads (getD to (16384 + (s * 256 + raw)) 0) code → code ≡ rowCode found
+  row-code r =
+      r .is ∙ ready .pair .numbers s raw (class-inside ws s class) class (ready .pair .sourceRows) (valid-source .some) (rw (← (ready .layout)) few) (rw (← (ready .layout)) small)
+
+  found-small : (f : Found) → found ≡ f → rowCode f ≤ 256
+  found-small (At j) g = omega (arith, numbered-below ws _ (firstWord ws s) (rowsWord ws s) j g, ready .pair .sourceRows)
+  found-small Missing g = omega arith
+
+  pub code-small : {code : ℕ} → Reads (getD to (16384 + (s * 256 + raw)) 0) code → (q ≤ 64) × (d < 64) × (code ≤ 256)
+  code-small r =
+      (rw (ready .precision) (leaf-valid wd (ready .pair .destinationText) d (ready .pair .destination) .most), class-inside wd d (ready .class), rw (row-code r) (found-small found refl))
+
+  pub index-small : s * 256 + raw < 16384
+  index-small =
+      let most : 2 ^ l .precision ≤ 2 ^ 8 = pow-mono few in
+      omega (arith, class-inside ws s class)
+
+  pub coded-becomes : {code : ℕ} {r : Fitted} → Reads (getD to (16384 + (s * 256 + raw)) 0) code → r ≡ foundBits to wd d q (rowOf code) → Becomes src a s d ws wd to r
+  unfolding symbolRows
+  coded-becomes {code} {r} rd h =
+      becomes-lt src a s d ws wd to r (ready .pair)
+      (λ p.
+      let rows : symbolRows ws s ≡ rowsWord ws s = rw (eq-eqb (classWord ws s) 2 class) in
+      let same : valued (layoutAt ws s .signed) (layoutAt ws s .precision) raw ≡ numberIn (leafOfType ws (p .sourceText) s) a src = rw (leaf-layout ws (p .sourceText) s, hw, ready .layout) in
+      h ∙ rw (row-code rd, row-back found, ready .precision, ← rows, same) (enum-converted s d ws wd to p (ready .class) (numberIn (leafOfType ws (p .sourceText) s) a src)))
 
 pub plain-becomes : (src : List ℕ) (a s d : ℕ) (ws wd to : List ℕ) {l m : Layout} {c raw : ℕ} {r : Fitted} → Pair s d ws wd to
     → l ≡ layoutAt ws s → m ≡ layoutAt wd d → Reads (classWord wd d) c → (c ≡ 2 → ⊥) → raw ≡ rawAt l a src
@@ -228,9 +278,17 @@ source-fits src a s d ws wd to h e = rw e (leaf-valid ws (h .0 .sourceText) s (h
 pub destination-valid : (s d : ℕ) (ws wd to : List ℕ) {l : Layout} → Pair s d ws wd to → l ≡ layoutAt wd d → Valid l
 destination-valid s d ws wd to p e = rw e (leaf-valid wd (p .destinationText) d (p .destination))
 
-pub enum-fits : (s d : ℕ) (ws wd to : List ℕ) {l : Layout} {c : ℕ} → Pair s d ws wd to → l ≡ layoutAt wd d → Reads (classWord wd d) c → c ≡ 2
-    → (l .precision ≤ 64) × (d < 64) × RowsInside ws s
-enum-fits s d ws wd to p e rc q = (destination-valid s d ws wd to p e .most, class-inside wd d (sym (rc .is) ∙ q), p .sourceRows)
+pub enum-fits : (n a s d : ℕ) (ws wd to : List ℕ) (l : Layout) (q : ℕ) → EnumReady n a s d ws wd to l q → (q ≤ 64) × (d < 64) × RowsInside ws s
+enum-fits n a s d ws wd to l q r =
+    (rw (r .precision) (leaf-valid wd (r .pair .destinationText) d (r .pair .destination) .most), class-inside wd d (r .class), r .pair .sourceRows)
+
+pub enum-ready : (src : List ℕ) (a s d : ℕ) (ws wd to : List ℕ) {l m : Layout} {c : ℕ} → Pair s d ws wd to × (a + layoutAt ws s .size .0 ≤ length src) → l ≡ layoutAt ws s
+    → m ≡ layoutAt wd d → Reads (classWord wd d) c → c ≡ 2 → EnumReady (length src) a s d ws wd to l (m .precision)
+enum-ready src a s d ws wd to h el em rc e =
+    record { pair = h .0; read = h .1; class = sym (rc .is) ∙ e; layout = el; precision = ap (λ (l : Layout). l .precision) em }
+
+pub source-ready : (n a s d : ℕ) (ws wd to : List ℕ) (l : Layout) (q : ℕ) → EnumReady n a s d ws wd to l q → Valid l × (a + l .size .0 ≤ n)
+source-ready n a s d ws wd to l q r = rw (r .layout) (leaf-valid ws (r .pair .sourceText) s (r .pair .source), r .read)
 
 pub store-fits : (s d b n raw : ℕ) (ws wd to : List ℕ) {l : Layout} → Pair s d ws wd to → b + layoutAt wd d .size .0 ≤ n → l ≡ layoutAt wd d
     → raw < 2 ^ layoutAt wd d .precision → Valid l × (b + l .size .0 ≤ n) × (raw < 2 ^ l .precision)

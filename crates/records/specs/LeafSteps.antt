@@ -1,14 +1,17 @@
 -- What the functions inside this crate promise of an enum's number on its way. No meaning of document 01 stands here.
+use mathlib.Core.Path.{_≡_}
 use mathlib.Core.Bool.{cond}
 use mathlib.Core.List.{List}
-use Prim.Native.Nat.{ℕ, zero, suc, _+_, _*_, _-_, _^_}
+use Prim.Native.Nat.{ℕ, zero, suc, _+_, _*_, _-_, _^_, _≤_}
 use lib.Dec.{eqb}
 use lib.ListN.{getD}
+use Rattle.layout.specs.declared.Layout.{Layout}
 use Rattle.number.specs.declared.Fitted.{Fitted}
 use Rattle.number.specs.Number.{bitsOf}
 use Rattle.table.specs.declared.Found.{Found}
 use Rattle.table.specs.declared.Found.the-variants.{At, Missing}
-use Rattle.table.specs.Table.{classWord, rowsWord, valueAt}
+use Rattle.table.specs.Table.{classWord, rowsWord, layoutAt, valueAt}
+use Rattle.records.specs.PlanWords.{Pair}
 
 -- how many symbols type k has: none where it is no enum
 unfoldable pub symbolRows : List ℕ → ℕ → ℕ
@@ -26,3 +29,16 @@ codeBits w p (suc j) = record { raw = bitsOf p (valueAt w j); kind = 0 }
 abbrev pub foundBits : List ℕ → List ℕ → ℕ → ℕ → Found → Fitted
 foundBits to w d p (At j) = codeBits w p (getD to (d * 256 + j) 0)
 foundBits to w d p Missing = allOnes p
+
+-- the row that a word stands for
+abbrev pub rowOf : ℕ → Found
+rowOf zero = Missing
+rowOf (suc j) = At j
+
+-- the leaf of type s at byte a of n bytes on its way to the enum d, whose precision is p; l is its layout
+pub record EnumReady (n a s d : ℕ) (ws wd to : List ℕ) (l : Layout) (p : ℕ) : Type 0 where
+  pub pair : Pair s d ws wd to
+  pub read : a + layoutAt ws s .size .0 ≤ n
+  pub class : classWord wd d ≡ 2
+  pub layout : l ≡ layoutAt ws s
+  pub precision : p ≡ layoutAt wd d .precision

@@ -1,15 +1,15 @@
 -- What the functions inside this crate promise of an entry's words, and the answer of a scan. No meaning of document 01 stands here.
 use mathlib.Core.Path.{_≡_}
 use mathlib.Core.List.{List}
-use Prim.Native.Nat.{ℕ, _+_, _≤_, _<_}
+use Prim.Native.Nat.{ℕ, _+_, _-_, _/_, _%_, _≤_, _<_}
 use lib.ListN.{getD, length}
-use Rattle.table.specs.Table.{layoutAt}
+use Rattle.table.specs.Table.{classWord, layoutAt}
 use Rattle.records.specs.declared.PlanEntry.{PlanEntry}
 use Rattle.records.specs.declared.Raising.{Raising}
 use Rattle.records.specs.declared.Raising.the-variants.{At, Nowhere}
 use Rattle.records.specs.Plan.{Raised}
 use Rattle.records.specs.Plan.Raised.{nowhere, at}
-use Rattle.records.specs.PlanWords.{planWord, easyPlace, EasyEntry, Pair}
+use Rattle.records.specs.PlanWords.{planWord, easyPlace, EasyEntry, Numbers, Pair}
 
 abbrev pub wordsAt : List ℕ → ℕ → PlanEntry
 wordsAt plan i = record { to = planWord plan i 0; from = planWord plan i 1; source = planWord plan i 2; destination = planWord plan i 3 }
@@ -38,3 +38,15 @@ pub record EntryReady (s d : ℕ) (e : PlanEntry) (i : ℕ) (ws wd to : List ℕ
   pub few : i < 4096
   pub words : easyPlace i + 8 ≤ length to
   pub easy : EasyEntry to i ws wd (e .source) (e .destination)
+
+-- r words from word k on, where none behind the first is wanted
+pub record Steps (w : List ℕ) (k r : ℕ) : Type 0 where
+  pub some : 1 ≤ r
+  pub within : r ≤ 256 - k % 256
+  pub skips : 1 < r → classWord w (k / 256) ≡ 2 → ⊥
+
+-- the rows by their numbers, put into `before`
+pub record NumbersPut (before ws after : List ℕ) : Type 0 where
+  pub numbers : Numbers after ws
+  pub below : (j : ℕ) → j < 16384 → getD after j 0 ≡ getD before j 0
+  pub long : length after ≡ length before

@@ -3,17 +3,18 @@
 use mathlib.Core.Path.{_≡_}
 use mathlib.Core.Bool.{cond}
 use mathlib.Core.List.{List, [], _∷_}
-use Prim.Native.Nat.{ℕ, zero, suc, _+_, _*_, _≤_, _<_}
+use Prim.Native.Nat.{ℕ, zero, suc, _+_, _*_, _^_, _≤_, _<_}
 use lib.Dec.{eqb}
 use lib.ListN.{length, getD}
 use Rattle.number.specs.declared.Fitted.{Fitted}
+use Rattle.number.specs.Number.{valued}
 use Rattle.datatype.specs.Datatype.{Leaf, Datatype, size}
 use Rattle.datatype.specs.Datatype.Leaf.{atomic, enumeration}
 use Rattle.datatype.specs.WellFormed.{WellFormedLeaf, WellFormed}
 use Rattle.table.specs.declared.Found.{Found}
 use Rattle.table.specs.declared.Found.the-variants.{At, Missing}
 use Rattle.table.specs.Table.{classWord, firstWord, rowsWord, layoutAt, nameAt, symbolsAt}
-use Rattle.table.specs.Rows.{rowNamed}
+use Rattle.table.specs.Rows.{rowNamed, rowNumbered}
 use Rattle.easy.specs.Words.{EasyAt}
 use Rattle.records.specs.Leaf.{numberIn, converted}
 use Rattle.records.specs.Plan.{Entry, planOf, AllSound}
@@ -63,6 +64,12 @@ Translates to ws ts wd td =
     (d j : ℕ) → d < 64 → j < 256 → classWord wd d ≡ 2 → RowsInside wd d
     → getD to (d * 256 + j) 0 ≡ rowCode (rowNamed wd td (nameAt ws ts j) (firstWord wd d) (rowsWord wd d))
 
+-- word 16,384 + s × 256 + bits of `to` is the row of the source enum s that has the number of these bits, where s has at most 8 of them
+abbrev pub Numbers : List ℕ → List ℕ → Type 0
+Numbers to ws =
+    (s bits : ℕ) → s < 64 → classWord ws s ≡ 2 → RowsInside ws s → 1 ≤ layoutAt ws s .precision → layoutAt ws s .precision ≤ 8 → bits < 2 ^ layoutAt ws s .precision
+    → getD to (16384 + (s * 256 + bits)) 0 ≡ rowCode (rowNumbered ws (valued (layoutAt ws s .signed) (layoutAt ws s .precision) bits) (firstWord ws s) (rowsWord ws s))
+
 -- ---- easy leaves
 
 -- where the words of entry i begin in `to`
@@ -85,6 +92,7 @@ pub record Pair (s d : ℕ) (ws wd to : List ℕ) : Type 0 where
   pub sourceRows : RowsInside ws s
   pub destinationRows : RowsInside wd d
   pub translates : Translates to ws sourceText wd destinationText
+  pub numbers : Numbers to ws
 
 -- what the number of the pair's source leaf at byte a of the record r becomes
 abbrev pub pairBecomes : {s d : ℕ} {ws wd to : List ℕ} → Pair s d ws wd to → ℕ → List ℕ → Fitted
@@ -101,6 +109,7 @@ pub record Ready (s d : ℕ) (plan : List ℕ) (n : ℕ) (ws wd to : List ℕ) :
   pub sourceRows : (i : ℕ) → i < n → RowsInside ws (planWord plan i 2)
   pub destinationRows : (i : ℕ) → i < n → RowsInside wd (planWord plan i 3)
   pub translates : Translates to ws sourceText wd destinationText
+  pub numbers : Numbers to ws
   pub most : n ≤ 4096
   pub words : easyPlace n ≤ length to
   pub easy : (i : ℕ) → i < n → EasyEntry to i ws wd (planWord plan i 2) (planWord plan i 3)
@@ -123,6 +132,7 @@ pub record Job (s d : ℕ) (plan : List ℕ) (n : ℕ) (ws wd to : List ℕ) : T
   pub sourceRows : (i : ℕ) → i < n → RowsInside ws (planWord plan i 2)
   pub destinationRows : (i : ℕ) → i < n → RowsInside wd (planWord plan i 3)
   pub translates : Translates to ws sourceText wd destinationText
+  pub numbers : Numbers to ws
   pub most : n ≤ 4096
   pub words : easyPlace n ≤ length to
   pub easy : (i : ℕ) → i < n → EasyEntry to i ws wd (planWord plan i 2) (planWord plan i 3)

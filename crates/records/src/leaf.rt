@@ -8,9 +8,10 @@ ghost use Rattle.number.specs.Parts.{signedBy};
 ghost use Rattle.table.specs.Table.{firstWord, rowsWord, layoutAt, valueAt};
 ghost use Rattle.table.specs.Rows.{rowNumbered};
 ghost use Rattle.records.specs.PlanWords.{RowsInside, Pair, pairBecomes};
-ghost use Rattle.records.specs.LeafSteps.{symbolRows, allOnes, codeBits, foundBits};
+ghost use Rattle.records.specs.LeafSteps.{symbolRows, allOnes, codeBits, rowOf, foundBits, EnumReady};
 use bits::ByteAt;
 use bits::shift::ones;
+use layout::Layout;
 use number::Fitted;
 use number::Parts;
 use number::fit::fit_raw;
@@ -103,6 +104,42 @@ fn enum_bits(
     }
 }
 
+// The source row in one word, as significant bits of the destination enum d.
+fn row_bits(code: usize, d: usize, w: &[u32], to: &[u32], precision: u32) -> Fitted
+    requires { ⌜ (precision ≤ 64) × (d < 64) × (code ≤ 256) ⌝ }
+    ensures { λ r. ⌜ r ≡ foundBits (now (to .entry)) (now (w .entry)) d precision (rowOf code) ⌝ }
+{
+    if code == 0 {
+        return all_ones(precision);
+    }
+    symbol_bits(code - 1, d, w, to, precision)
+}
+
+// What the number in the leaf of type s at byte a of src becomes in the enum d: by the table of rows where the source is an enum of at most 8 bits.
+fn enum_leaf(
+    src: &[u8],
+    a: usize,
+    s: usize,
+    d: usize,
+    ws: &[u32],
+    wd: &[u32],
+    to: &[u32],
+    l: Layout,
+    precision: u32,
+) -> Fitted
+    requires { ⌜ EnumReady (length (now src)) a s d (now ws) (now wd) (now to) l precision ⌝ }
+    ensures { λ r. ⌜ ((p : Pair s d (now (ws .entry)) (now (wd .entry)) (now (to .entry))) → r ≡ pairBecomes p a (now (src .entry))) × (r .raw < 2 ^ layoutAt (now (wd .entry)) d .precision) ⌝ }
+{
+    if type_word(ws, s, 0) == 2 {
+        if l.precision <= 8 {
+            let bits = raw_at(src, ByteAt(a), l) as usize;
+            return row_bits(word(to, 16384 + (s * 256 + bits)), d, wd, to, precision);
+        }
+    }
+    let z = split(number::read(src, ByteAt(a), l));
+    enum_bits(z, s, d, ws, wd, to, precision)
+}
+
 // What the number in the leaf of type s at byte a of src becomes in a leaf of type d.
 fn leaf_bits(src: &[u8], a: usize, s: usize, d: usize, ws: &[u32], wd: &[u32], to: &[u32]) -> Fitted
     requires { ⌜ Pair s d (now ws) (now wd) (now to) × (a + layoutAt (now ws) s .size .0 ≤ length (now src)) ⌝ }
@@ -111,8 +148,7 @@ fn leaf_bits(src: &[u8], a: usize, s: usize, d: usize, ws: &[u32], wd: &[u32], t
     let l = layout_at(ws, s);
     let m = layout_at(wd, d);
     if type_word(wd, d, 0) == 2 {
-        let z = split(number::read(src, ByteAt(a), l));
-        return enum_bits(z, s, d, ws, wd, to, m.precision);
+        return enum_leaf(src, a, s, d, ws, wd, to, l, m.precision);
     }
     fit_raw(l, m, raw_at(src, ByteAt(a), l))
 }

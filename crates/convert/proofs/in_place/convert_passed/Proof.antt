@@ -16,6 +16,12 @@ slice-aggregate-translations c = search needs
 translations-requires : tie.Need-translations-requires
 translations-requires c κs = search needs
 
+slice-aggregate-numbers : tie.Need-slice-aggregate-numbers
+slice-aggregate-numbers c = search needs
+
+numbers-requires : tie.Need-numbers-requires
+numbers-requires c κs = search needs
+
 slice-aggregate-put-entries : tie.Need-slice-aggregate-put-entries
 slice-aggregate-put-entries c = search needs
 
@@ -34,8 +40,9 @@ slice-aggregate-convert-planned-2 c = search needs
 convert-planned-requires : tie.Need-convert-planned-requires
 convert-planned-requires c κs =
     let t = c .before .before .before .before in
-    let pre = t .before .before .before .before .before .before .before .before .before .before .before .before .before .before .before .pre in
-    (job _ _ _ _ _ _ _ _ _ _ _ _ _ (pre .0) (search needs) (t .before .before .before .before .before .before .before .plan2 .ensures) (t .before .before .before .before .translations .ensures) (search needs) (t .put-entries .ensures), pre .1, pre .2, pre .3, pre .4, pre .5)
+    let n = t .before .before .before .before in
+    let pre = n .before .before .before .before .before .before .before .before .before .before .before .before .before .before .pre in
+    (job _ _ _ _ _ _ _ _ _ _ _ _ _ _ (pre .0) (search needs) (n .before .before .before .before .before .before .plan2 .ensures) (n .before .before .before .translations .ensures) (search needs) (n .numbers .ensures) (t .put-entries .ensures), pre .1, pre .2, pre .3, pre .4, pre .5)
 
 same-length : tie.Need-same-length
 same-length c = search needs
@@ -44,9 +51,10 @@ returns : tie.Need-returns
 unfolding job
 returns c =
     let t = c .before .before .before .before .before .before .before in
-    let start = t .before .before .before .before .before .before .before .before .before .before .before .before .before .before .before in
+    let n = t .before .before .before .before in
+    let start = n .before .before .before .before .before .before .before .before .before .before .before .before .before .before in
     c .before .before .convert-planned .ensures
-    (job _ _ _ _ _ _ _ _ _ _ _ _ _ (start .pre .0) (search needs) (t .before .before .before .before .before .before .before .plan2 .ensures) (t .before .before .before .before .translations .ensures) (search needs) (t .put-entries .ensures))
+    (job _ _ _ _ _ _ _ _ _ _ _ _ _ _ (start .pre .0) (search needs) (n .before .before .before .before .before .before .plan2 .ensures) (n .before .before .before .translations .ensures) (search needs) (n .numbers .ensures) (t .put-entries .ensures))
 
 pub convert-passed-spec : {M : Type 1} → statement M
 convert-passed-spec =
@@ -56,6 +64,8 @@ convert-passed-spec =
     plan-requires
     slice-aggregate-translations
     translations-requires
+    slice-aggregate-numbers
+    numbers-requires
     slice-aggregate-put-entries
     slice-aggregate-put-entries-2
     put-entries-requires

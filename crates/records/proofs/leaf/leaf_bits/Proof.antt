@@ -1,28 +1,26 @@
 -- `records::leaf::leaf_bits` meets its contract: by the class of the destination type. Assumes nothing.
+use Rattle.records.proofs.LeafSteps.{source-fits, destination-valid, enum-ready, plain-becomes}
 use borrow.Author.Needs.{needs}
-use Rattle.records.proofs.LeafSteps.{source-fits, destination-valid, enum-fits, enum-becomes, plain-becomes}
 use Rattle.records.proofs.leaf.leaf_bits.Statement.{statement}
 use Rattle.records.proofs.leaf.leaf_bits.Tie as tie
 
-read-requires : tie.Need-read-requires
-read-requires c κs =
-    let b = c .before .before .before in
-    let start = b .before .before .before .before .before in
-    source-fits (start .args .src .now) (start .args .a) _ _ _ _ _ (start .pre) (b .layout-at .ensures .0)
+layout-at-requires : tie.Need-layout-at-requires
+layout-at-requires c κs = search needs
 
-enum-bits-requires : tie.Need-enum-bits-requires
-enum-bits-requires c κs =
-    let b = c .before .before .before in
-    enum-fits _ _ _ _ _ (b .before .before .before .before .before .before .before .pre .0) (b .before .layout-at2 .ensures .0) (b .type-word .ensures)
-    (c .before .before .if1 .taken)
+layout-at-requires-2 : tie.Need-layout-at-requires-2
+layout-at-requires-2 c κs = search needs
+
+type-word-requires : tie.Need-type-word-requires
+type-word-requires c κs = search needs
+
+enum-leaf-requires : tie.Need-enum-leaf-requires
+enum-leaf-requires c κs =
+    let b = c .before in
+    let start = b .before .before .before .before .before .before .before in
+    enum-ready (start .args .src .now) (start .args .a) _ _ _ _ _ (start .pre) (b .before .before .layout-at .ensures .0) (b .before .layout-at2 .ensures .0) (b .type-word .ensures) (c .if1 .taken)
 
 returns : tie.Need-returns
-returns c =
-    let b = c .before .before .before .before in
-    let start = b .before .before .before .before .before .before .before in
-    enum-becomes (start .args .src .now) (start .args .a) _ _ _ _ _ (c .before .before .read .result) (c .before .split .result) (start .pre .0)
-    (b .before .before .layout-at .ensures .0) (b .before .layout-at2 .ensures .0) (b .type-word .ensures) (c .before .before .before .if1 .taken)
-    (c .before .before .read .ensures) (c .before .split .ensures) (c .enum-bits .ensures)
+returns c = search needs
 
 raw-at-requires : tie.Need-raw-at-requires
 raw-at-requires c κs =
@@ -50,12 +48,10 @@ pub leaf-bits-spec : {M : Type 1} → statement M
 leaf-bits-spec =
     tie.close
     (tie.spec
-    (λ c κs. search needs)
-    (λ c κs. search needs)
-    (λ c κs. search needs)
-    read-requires
-    (λ c κs. search needs)
-    enum-bits-requires
+    layout-at-requires
+    layout-at-requires-2
+    type-word-requires
+    enum-leaf-requires
     returns
     raw-at-requires
     fit-raw-requires

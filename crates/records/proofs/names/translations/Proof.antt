@@ -1,10 +1,10 @@
 -- `records::names::translations` meets its contract. The loop's invariant: each word below k is right. Assumes nothing.
-use mathlib.Core.Path.{_≡_}
-use Prim.Native.Nat.{ℕ, _≤_, _<_, _-_}
+use mathlib.Core.Path.{_≡_, _∙_}
+use Prim.Native.Nat.{ℕ, _+_, _≤_, _<_, _-_}
 use native.Mathlib.Omega.{arith}
 use lib.ListN.{length, getD, length-set}
 use borrow.Author.Needs.{needs}
-use Rattle.records.proofs.Translations.{Word, all-words, word-more}
+use Rattle.records.proofs.Translations.{Named, Word, all-words, words-more}
 use Rattle.records.proofs.names.translations.Statement.{statement}
 use Rattle.records.proofs.names.translations.Tie as tie
 
@@ -18,10 +18,20 @@ abbrev μ-loop : tie.MeasureT-loop
 loop-holds : tie.Need-loop-holds Inv-loop μ-loop
 loop-holds c = (omega arith, omega arith, λ i h. absurd (omega arith))
 
+add-k : tie.Need-add-k Inv-loop μ-loop
+add-k c = omega (arith, c .step .ensures .within)
+
+loop-less : tie.Need-loop-less Inv-loop μ-loop
+loop-less c = omega (arith, c .step .ensures .some)
+
 loop-again : tie.Need-loop-again Inv-loop μ-loop
 loop-again c =
-    let l = c .before .before in
-    (omega arith, simp length-set (l .loop .inv .1), word-more (l .loop .to) _ _ _ _ (l .loop .k) (c .translation .result) (omega arith) (l .loop .inv .2) (c .translation .ensures))
+    let l = c .before .before .before in
+    let a = l .before .before .before .before .before .before .args in (
+      omega (arith, c .step .ensures .within),
+      simp length-set (l .loop .inv .1),
+      words-more (a .wd .now) (Named (a .ws .now) (a .ts .now) (a .wd .now) (a .td .now)) (λ i. i) (λ i k e. e) (l .loop .to) (l .loop .k) (c .before .translation .result) _ (omega arith) (l .loop .inv .2) (c .before .translation .ensures) (c .step .ensures),
+    )
 
 returns : tie.Need-returns Inv-loop μ-loop
 returns c =
@@ -38,8 +48,9 @@ translations-spec =
     (λ c κs. search needs)
     (λ c. omega arith)
     (λ c. omega arith)
-    (λ c. omega arith)
-    (λ c. omega arith)
+    (λ c κs. search needs)
+    add-k
+    loop-less
     loop-again
     (λ c. omega arith)
     returns)

@@ -1,0 +1,316 @@
+// Times the copying and the in-place form, and HDF5's H5Tconvert where it is there (-DWITH_HDF5), on the same bytes, interleaved in one run.
+// HDF5 follows document 01 on these workloads: a byte that differs ends the run with status 1.
+#include "../include/yirvagul.h"
+#include <stdio.h>
+#include <stdlib.h>
+#include <string.h>
+#include <time.h>
+#ifdef WITH_HDF5
+#include <hdf5.h>
+#else
+typedef int hid_t;
+#endif
+
+enum { RECORDS = 65536, ROUNDS_MOST = 101 };
+
+// One side of a workload: its sheet, the size of its record, and HDF5's datatype.
+typedef struct {
+    char sheet[16384];
+    int types, size;
+    hid_t h5;
+} Side;
+
+typedef struct {
+    const char *name;
+    int leaves;          // matched leaves of a record
+    const char *target;  // HDF5's time by that of the copying form
+    int largest;         // source bytes are random, from 0 up to this
+    Side source, destination;
+} Workload;
+
+typedef struct {
+    int size, big, offset, precision, is_signed;
+} Int;
+
+// ---- datatypes, as lines of a sheet and as HDF5's; each returns the type's number
+
+static void add(Side *s, const char *line) { strcat(strcat(s->sheet, line), "\n"); }
+
+static int add_int(Side *s, Int l) {
+    char line[128];
+    snprintf(line, sizeof line, "int\t%d\t%s\t%d\t%d\tzero\tzero\t%s", l.size, l.big ? "BE" : "LE", l.offset, l.precision, l.is_signed ? "signed" : "unsigned");
+    add(s, line);
+    s->size = l.size;
+#ifdef WITH_HDF5
+    s->h5 = H5Tcopy(l.is_signed ? H5T_STD_I64LE : H5T_STD_U64LE);
+    H5Tset_precision(s->h5, (size_t)l.precision);
+    H5Tset_size(s->h5, (size_t)l.size);
+    H5Tset_offset(s->h5, (size_t)l.offset);
+    H5Tset_order(s->h5, l.big ? H5T_ORDER_BE : H5T_ORDER_LE);
+#endif
+    return s->types++;
+}
+
+static int add_array(Side *s, int base, int n) {
+    char line[64];
+    snprintf(line, sizeof line, "array\t%d\t%d", base, n);
+    add(s, line);
+    s->size *= n;
+#ifdef WITH_HDF5
+    hsize_t dims[1] = {(hsize_t)n};
+    s->h5 = H5Tarray_create2(s->h5, 1, dims);
+#endif
+    return s->types++;
+}
+
+// 16 symbols, numbered from `first` on by `step`.
+static int add_enum(Side *s, Int l, int first, int step) {
+    char line[64];
+    snprintf(line, sizeof line, "enum\t%d", add_int(s, l));
+    add(s, line);
+#ifdef WITH_HDF5
+    hid_t base = s->h5;
+    s->h5 = H5Tenum_create(base);
+#endif
+    for (int i = 0; i < 16; i++) {
+        snprintf(line, sizeof line, "value\ts%d\t%d", i, first + step * i);
+        add(s, line);
+#ifdef WITH_HDF5
+        int value = first + step * i;
+        unsigned char bytes[8] = {0};
+        memcpy(bytes, &value, sizeof value);
+        H5Tconvert(H5T_NATIVE_INT, base, 1, bytes, NULL, H5P_DEFAULT);
+        snprintf(line, sizeof line, "s%d", i);
+        H5Tenum_insert(s->h5, line, bytes);
+#endif
+    }
+    return s->types++;
+}
+
+// The members stand one behind the other; member i is called m and names[i], or i, and has type i of the n that were made.
+static void add_compound(Side *s, int n, const int *types, const int *sizes, const hid_t *h5, const int *names) {
+    char line[64];
+    int size = 0, at = 0;
+    for (int i = 0; i < n; i++)
+        size += sizes[i];
+    snprintf(line, sizeof line, "comp\t%d", size);
+    add(s, line);
+    s->types++;
+    s->size = size;
+#ifdef WITH_HDF5
+    s->h5 = H5Tcreate(H5T_COMPOUND, (size_t)size);
+#endif
+    for (int i = 0; i < n; i++) {
+        char name[16];
+        snprintf(name, sizeof name, "m%d", names ? names[i] : i);
+        snprintf(line, sizeof line, "member\t%s\t%d\t%d", name, at, types[i]);
+        add(s, line);
+#ifdef WITH_HDF5
+        H5Tinsert(s->h5, name, (size_t)at, h5[i]);
+#else
+        (void)h5;
+#endif
+        at += sizes[i];
+    }
+}
+
+static void add_ints(Side *s, int n, const Int *members, const int *names) {
+    int types[64], sizes[64];
+    hid_t h5[64];
+    for (int i = 0; i < n; i++) {
+        types[i] = add_int(s, members[i]);
+        sizes[i] = s->size;
+        h5[i] = s->h5;
+    }
+    add_compound(s, n, types, sizes, h5, names);
+}
+
+// ---- workloads
+
+static void whole_bytes(Workload *w) {
+    static const Int from[8] = {{1, 0, 0, 8, 0}, {2, 0, 0, 16, 1}, {4, 1, 0, 32, 0}, {2, 1, 0, 16, 1}, {4, 0, 0, 32, 1}, {1, 0, 0, 8, 1}, {2, 0, 0, 16, 0}, {4, 0, 0, 32, 0}};
+    static const Int to[8] = {{4, 0, 0, 32, 0}, {4, 0, 0, 32, 1}, {8, 0, 0, 64, 0}, {8, 1, 0, 64, 1}, {8, 0, 0, 64, 1}, {2, 0, 0, 16, 1}, {4, 1, 0, 32, 0}, {8, 0, 0, 64, 0}};
+    add_ints(&w->source, 8, from, NULL);
+    add_ints(&w->destination, 8, to, NULL);
+}
+
+static void twelve_bits(Workload *w) {
+    Int from[8], to[8];
+    for (int i = 0; i < 8; i++) {
+        from[i] = (Int){2, 1, 4, 12, i % 2};
+        to[i] = (Int){4, 0, 0, 32, i % 2};
+    }
+    add_ints(&w->source, 8, from, NULL);
+    add_ints(&w->destination, 8, to, NULL);
+}
+
+static void array_of_512(Workload *w) {
+    add_array(&w->source, add_int(&w->source, (Int){2, 1, 4, 12, 1}), 512);
+    add_array(&w->destination, add_int(&w->destination, (Int){4, 0, 0, 32, 1}), 512);
+}
+
+static void four_enums(Side *s, Int base, int first, int step) {
+    int types[4], sizes[4];
+    hid_t h5[4];
+    for (int i = 0; i < 4; i++) {
+        types[i] = add_enum(s, base, first + i, step);
+        sizes[i] = s->size;
+        h5[i] = s->h5;
+    }
+    add_compound(s, 4, types, sizes, h5, NULL);
+}
+
+static void enums(Workload *w) {
+    four_enums(&w->source, (Int){1, 0, 0, 8, 0}, 0, 1);
+    four_enums(&w->destination, (Int){2, 1, 0, 16, 0}, 100, 3);
+}
+
+static void grown_byte(Workload *w) {
+    add_int(&w->source, (Int){1, 0, 0, 8, 1});
+    add_int(&w->destination, (Int){8, 0, 0, 64, 1});
+}
+
+static void four_of_64(Workload *w, const int *taken) {
+    Int four[4];
+    int types[64], sizes[64];
+    hid_t h5[64];
+    int type = add_int(&w->source, (Int){4, 0, 0, 32, 1});
+    for (int i = 0; i < 64; i++) {
+        types[i] = type;
+        sizes[i] = 4;
+        h5[i] = w->source.h5;
+    }
+    add_compound(&w->source, 64, types, sizes, h5, NULL);
+    for (int i = 0; i < 4; i++)
+        four[i] = (Int){4, 0, 0, 32, 1};
+    add_ints(&w->destination, 4, four, taken);
+}
+
+static void scattered(Workload *w) { four_of_64(w, (const int[4]){3, 17, 40, 62}); }
+static void first_four(Workload *w) { four_of_64(w, (const int[4]){0, 1, 2, 3}); }
+
+// ---- timing
+
+static double now_ns(void) {
+    struct timespec t;
+    clock_gettime(CLOCK_MONOTONIC, &t);
+    return 1e9 * (double)t.tv_sec + (double)t.tv_nsec;
+}
+
+static int by_size(const void *a, const void *b) {
+    double x = *(const double *)a, y = *(const double *)b;
+    return (x > y) - (x < y);
+}
+
+static double median(double *times, int n) {
+    qsort(times, (size_t)n, sizeof *times, by_size);
+    return times[n / 2] / RECORDS;
+}
+
+static void fail(const Workload *w, const char *what) {
+    fprintf(stderr, "%s: %s\n", w->name, what);
+    exit(1);
+}
+
+static unsigned char random_byte(int largest) {
+    static unsigned long long state = 88172645463325252ull;
+    state ^= state << 13;
+    state ^= state >> 7;
+    state ^= state << 17;
+    return (unsigned char)((state >> 24) % (unsigned)(largest + 1));
+}
+
+typedef struct {
+    unsigned char *source, *background, *destination, *place, *h5, *h5_background;
+} Buffers;
+
+static double copying(const Workload *w, const Buffers *b, uint32_t *table) {
+    uint64_t answer[8];
+    const Side *s = &w->source, *d = &w->destination;
+    double t = now_ns();
+    if (yirvagul_convert_copying_plain((const uint8_t *)s->sheet, strlen(s->sheet), (const uint8_t *)d->sheet, strlen(d->sheet), RECORDS, b->source, RECORDS * (size_t)s->size, b->destination,
+                                       RECORDS * (size_t)d->size, table, YIRVAGUL_TABLE_WORDS, answer))
+        fail(w, "the copying form refused");
+    return now_ns() - t;
+}
+
+static double in_place(const Workload *w, const Buffers *b, uint32_t *table) {
+    uint64_t answer[8];
+    const Side *s = &w->source, *d = &w->destination;
+    size_t most = RECORDS * (size_t)(s->size > d->size ? s->size : d->size);
+    memcpy(b->place, b->source, RECORDS * (size_t)s->size);
+    double t = now_ns();
+    if (yirvagul_convert_in_place_plain((const uint8_t *)s->sheet, strlen(s->sheet), (const uint8_t *)d->sheet, strlen(d->sheet), RECORDS, b->place, most, b->background, RECORDS * (size_t)d->size,
+                                        table, YIRVAGUL_TABLE_WORDS, answer))
+        fail(w, "the in-place form refused");
+    return now_ns() - t;
+}
+
+// H5Tconvert works in place over a background.
+static double hdf5(const Workload *w, const Buffers *b) {
+#ifdef WITH_HDF5
+    memcpy(b->h5, b->source, RECORDS * (size_t)w->source.size);
+    memcpy(b->h5_background, b->background, RECORDS * (size_t)w->destination.size);
+    double t = now_ns();
+    if (H5Tconvert(w->source.h5, w->destination.h5, RECORDS, b->h5, b->h5_background, H5P_DEFAULT) < 0)
+        fail(w, "HDF5 refused");
+    return now_ns() - t;
+#else
+    (void)w;
+    (void)b;
+    return 0;
+#endif
+}
+
+static void print_row(const Workload *w, double c, double p, double h) {
+    double n = w->leaves;
+    printf("| %s | %.1f | %.2f | %.1f | %.2f |", w->name, c, c / n, p, p / n);
+    if (h > 0)
+        printf(" %.1f | %.2f | %.2f | %.2f | %s |\n", h, h / n, h / c, h / p, w->target);
+    else
+        printf(" | | | | %s |\n", w->target);
+    fflush(stdout);
+}
+
+static void run(const Workload *w, int rounds) {
+    static double c[ROUNDS_MOST], p[ROUNDS_MOST], h[ROUNDS_MOST];
+    size_t s = RECORDS * (size_t)w->source.size, d = RECORDS * (size_t)w->destination.size, most = s > d ? s : d;
+    Buffers b = {malloc(s), calloc(d, 1), calloc(d, 1), malloc(most), malloc(most), malloc(d)};
+    uint32_t *table = calloc(YIRVAGUL_TABLE_WORDS, sizeof *table);
+    for (size_t i = 0; i < s; i++)
+        b.source[i] = random_byte(w->largest);
+    for (int i = 0; i < rounds; i++) {
+        c[i] = copying(w, &b, table);
+        p[i] = in_place(w, &b, table);
+        h[i] = hdf5(w, &b);
+    }
+    if (memcmp(b.destination, b.place, d))
+        fail(w, "the two forms differ");
+#ifdef WITH_HDF5
+    if (memcmp(b.destination, b.h5, d))
+        fail(w, "HDF5's bytes differ");
+#endif
+    print_row(w, median(c, rounds), median(p, rounds), median(h, rounds));
+    free(b.source), free(b.background), free(b.destination), free(b.place), free(b.h5), free(b.h5_background), free(table);
+}
+
+int main(int argc, char **argv) {
+    static Workload w[] = {{"8 whole-byte members", 8, "4", 255, {.sheet = ""}, {.sheet = ""}},
+                           {"8 members of 12 bits", 8, "15", 255, {.sheet = ""}, {.sheet = ""}},
+                           {"array of 512 of 12 bits", 512, "6", 255, {.sheet = ""}, {.sheet = ""}},
+                           {"4 enums of 16 symbols", 4, "3", 15, {.sheet = ""}, {.sheet = ""}},
+                           {"1 byte grown to 8", 1, "", 255, {.sheet = ""}, {.sheet = ""}},
+                           {"4 members out of 64", 4, "1.2", 255, {.sheet = ""}, {.sheet = ""}},
+                           {"the first 4 of 64", 4, "", 255, {.sheet = ""}, {.sheet = ""}}};
+    static void (*const make[])(Workload *) = {whole_bytes, twelve_bits, array_of_512, enums, grown_byte, scattered, first_four};
+    int rounds = argc > 1 ? atoi(argv[1]) : 15;
+    if (rounds < 1 || rounds > ROUNDS_MOST)
+        rounds = 15;
+    printf("| workload | copying ns/record | ns/leaf | in place ns/record | ns/leaf | HDF5 ns/record | ns/leaf | HDF5 / copying | HDF5 / in place | target |\n");
+    printf("|---|---|---|---|---|---|---|---|---|---|\n");
+    for (size_t i = 0; i < sizeof w / sizeof *w; i++) {
+        make[i](&w[i]);
+        run(&w[i], w[i].leaves > 100 ? (rounds + 2) / 3 : rounds);
+    }
+    return 0;
+}

@@ -1,0 +1,151 @@
+/* Calls every function of the header, with each number that it answers. */
+#include <stdio.h>
+#include <string.h>
+
+#include "yirvagul.h"
+
+#define BYTE "int\t1\tLE\t0\t8\tzero\tzero\tunsigned\n"
+#define SIGNED_BYTE "int\t1\tLE\t0\t8\tzero\tzero\tsigned\n"
+#define PAIR "int\t2\tBE\t0\t16\tzero\tzero\tunsigned\n"
+#define BITS "bits\t1\tLE\t0\t8\tzero\tzero\n"
+
+static uint32_t table[YIRVAGUL_TABLE_WORDS + 1];
+static uint64_t answer[8];
+static int failed;
+
+static void expect(int holds, const char *what) {
+    if (!holds) {
+        printf("failed: %s\n", what);
+        failed = 1;
+    }
+}
+
+/* The answer is these words, and the call returned the first of them. */
+static void expect_answer(uint32_t returned, uint64_t number, uint64_t count, uint64_t line, uint64_t record, uint64_t at, uint64_t kind,
+                          const char *what) {
+    uint64_t wanted[8];
+    wanted[0] = number;
+    wanted[1] = count;
+    wanted[2] = line;
+    wanted[3] = record;
+    wanted[4] = at;
+    wanted[5] = kind;
+    wanted[6] = 0;
+    wanted[7] = 0;
+    expect(returned == number && memcmp(wanted, answer, sizeof wanted) == 0, what);
+    memset(answer, 0xee, sizeof answer);
+}
+
+static void expect_bytes(const uint8_t *found, const char *wanted, size_t len, const char *what) { expect(memcmp(found, wanted, len) == 0, what); }
+
+static uint32_t copying(const char *from, const char *to, uint64_t count, uint32_t handling, const char *source, size_t source_len, uint8_t *destination,
+                        size_t destination_len) {
+    return yirvagul_convert_copying((const uint8_t *)from, strlen(from), (const uint8_t *)to, strlen(to), count, handling, (const uint8_t *)source,
+                                    source_len, destination, destination_len, table, YIRVAGUL_TABLE_WORDS, answer);
+}
+
+static void test_copying(void) {
+    uint8_t out[3] = {0x77, 0x77, 0x77};
+    expect_answer(copying(BYTE, SIGNED_BYTE, 2, YIRVAGUL_CLAMP, "\xff\x05", 2, out, 3), 0, 1, 0, 0, 0, 0, "copying, one clamped");
+    expect_bytes(out, "\x7f\x05\x77", 3, "copied bytes, and none past them");
+    memset(out, 0x77, 3);
+    expect_answer(copying(BYTE, SIGNED_BYTE, 2, 2, "\xff\x05", 2, out, 3), 1, 0, 0, 0, 0, 0, "HANDLING");
+    expect_answer(copying("int\t9\n", SIGNED_BYTE, 2, 0, "\xff\x05", 2, out, 3), 3, 0, 1, 0, 0, 0, "SOURCE");
+    expect_answer(copying(BYTE, BYTE "x\n", 2, 0, "\xff\x05", 2, out, 3), 4, 0, 2, 0, 0, 0, "DESTINATION");
+    expect_answer(copying(BYTE, BITS, 2, 0, "\xff\x05", 2, out, 3), 5, 0, 0, 0, 0, 0, "PATH");
+    expect_answer(copying(BYTE, SIGNED_BYTE, 65537, 0, "\xff\x05", 2, out, 3), 6, 0, 0, 0, 0, 0, "COUNT");
+    expect_answer(copying(BYTE, SIGNED_BYTE, 3, 0, "\xff\x05", 2, out, 3), 7, 0, 0, 0, 0, 0, "ROOM");
+    expect_answer(copying(BYTE, SIGNED_BYTE, 2, YIRVAGUL_STOP_FIRST, "\x05\xff", 2, out, 3), 8, 0, 0, 1, 0, YIRVAGUL_ABOVE, "STOP");
+    expect_bytes(out, "\x77\x77\x77", 3, "a refusal leaves the destination");
+    expect_answer(yirvagul_convert_copying_plain((const uint8_t *)SIGNED_BYTE, strlen(SIGNED_BYTE), (const uint8_t *)PAIR, strlen(PAIR), 1,
+                                                 (const uint8_t *)"\xff", 1, out, 3, table, YIRVAGUL_TABLE_WORDS, answer),
+                  0, 1, 0, 0, 0, 0, "copying, plain");
+    expect_bytes(out, "\x00\x00\x77", 3, "copied bytes, plain");
+}
+
+static void test_in_place(void) {
+    uint8_t buffer[4] = {0x0a, 0x0b, 0x77, 0x77};
+    const uint8_t background[4] = {0, 0, 0, 0};
+    expect_answer(yirvagul_convert_in_place((const uint8_t *)BYTE, strlen(BYTE), (const uint8_t *)PAIR, strlen(PAIR), 2, YIRVAGUL_STOP_FIRST, buffer, 4,
+                                            background, 4, table, YIRVAGUL_TABLE_WORDS, answer),
+                  0, 0, 0, 0, 0, 0, "in place");
+    expect_bytes(buffer, "\x00\x0a\x00\x0b", 4, "grown in place");
+    expect_answer(yirvagul_convert_in_place_plain((const uint8_t *)PAIR, strlen(PAIR), (const uint8_t *)BYTE, strlen(BYTE), 2, buffer, 4, background, 4,
+                                                  table, YIRVAGUL_TABLE_WORDS, answer),
+                  0, 0, 0, 0, 0, 0, "in place, plain");
+    expect_bytes(buffer, "\x0a\x0b\x00\x00", 4, "shrunk in place, with a cleared tail");
+    expect_answer(yirvagul_convert_in_place((const uint8_t *)BYTE, strlen(BYTE), (const uint8_t *)PAIR, strlen(PAIR), 2, 0, buffer, 3, background, 4,
+                                            table, YIRVAGUL_TABLE_WORDS, answer),
+                  7, 0, 0, 0, 0, 0, "ROOM, in place");
+}
+
+static void test_list(void) {
+    static uint8_t list[YIRVAGUL_LIST_BYTES];
+    const char *wanted = "at\tsize\tclass\n0\t1\tbits\n";
+    memset(list, 0x77, sizeof list);
+    expect_answer(yirvagul_leaf_list((const uint8_t *)BITS, strlen(BITS), list, sizeof list, table, YIRVAGUL_TABLE_WORDS, answer), 0, strlen(wanted), 0, 0,
+                  0, 0, "the list's length");
+    expect_bytes(list, wanted, strlen(wanted), "the list");
+    expect(list[strlen(wanted)] == 0x77, "bytes past the list");
+    expect_answer(yirvagul_leaf_list((const uint8_t *)BITS, strlen(BITS), list, 22, table, YIRVAGUL_TABLE_WORDS, answer), 7, 0, 0, 0, 0, 0, "ROOM, list");
+    expect_answer(yirvagul_leaf_list((const uint8_t *)BITS, 0, list, 23, table, YIRVAGUL_TABLE_WORDS, answer), 3, 0, 1, 0, 0, 0, "an empty sheet");
+}
+
+static void test_table(void) {
+    uint8_t list[64];
+    size_t i;
+    int zero = 1;
+    for (i = 0; i <= YIRVAGUL_TABLE_WORDS; i++) table[i] = 7;
+    expect_answer(yirvagul_leaf_list((const uint8_t *)BITS, strlen(BITS), list, sizeof list, table, YIRVAGUL_TABLE_WORDS - 1, answer), 2, 0, 0, 0, 0, 0,
+                  "TABLE");
+    expect(table[0] == 7, "TABLE leaves the table");
+    yirvagul_leaf_list((const uint8_t *)BITS, strlen(BITS), list, sizeof list, table, YIRVAGUL_TABLE_WORDS + 1, answer);
+    for (i = 0; i < YIRVAGUL_TABLE_WORDS; i++) zero = zero && table[i] == 0;
+    expect(zero && table[YIRVAGUL_TABLE_WORDS] == 7, "the table afterwards");
+}
+
+static void expect_layout(uint32_t returned, uint32_t number, const uint32_t layout[8], const uint32_t wanted[8], const char *what) {
+    expect(returned == number && memcmp(layout, wanted, 8 * sizeof *wanted) == 0, what);
+}
+
+static void test_setters(void) {
+    uint32_t l[8] = {YIRVAGUL_INT, 4, YIRVAGUL_LE, 16, 16, 0, 0, YIRVAGUL_UNSIGNED};
+    const uint32_t shrunk[8] = {0, 3, 0, 8, 16, 0, 0, 0};
+    const uint32_t precise[8] = {0, 3, 0, 4, 20, 0, 0, 0};
+    const uint32_t moved[8] = {0, 5, 0, 20, 20, 0, 0, 0};
+    const uint32_t styled[8] = {0, 5, 1, 20, 20, 1, 2, 1};
+    expect_layout(yirvagul_set_size(l, 3), 0, l, shrunk, "size");
+    expect_layout(yirvagul_set_size(l, 9), 9, l, shrunk, "size 9");
+    expect_layout(yirvagul_set_precision(l, 20), 0, l, precise, "precision");
+    expect_layout(yirvagul_set_precision(l, 65), 9, l, precise, "precision 65");
+    expect_layout(yirvagul_set_offset(l, 20), 0, l, moved, "offset");
+    expect_layout(yirvagul_set_offset(l, 4294967295u), 9, l, moved, "an offset that would wrap");
+    yirvagul_set_order(l, YIRVAGUL_BE);
+    yirvagul_set_pads(l, YIRVAGUL_PAD_ONE, YIRVAGUL_PAD_KEEP);
+    expect_layout(yirvagul_set_sign(l, YIRVAGUL_SIGNED), 0, l, styled, "order, pads, sign");
+    expect_layout(yirvagul_set_order(l, 2), 9, l, styled, "order 2");
+    expect_layout(yirvagul_set_pads(l, 0, 3), 9, l, styled, "pads 0, 3");
+    expect_layout(yirvagul_set_sign(l, 2), 9, l, styled, "sign 2");
+}
+
+static void test_faulty_layouts(void) {
+    uint32_t bits[8] = {YIRVAGUL_BITS, 1, 0, 0, 8, 0, 0, 0};
+    uint32_t order[8] = {0, 1, 7, 0, 8, 0, 0, 0};
+    uint32_t wide[8] = {0, 1, 0, 1, 8, 0, 0, 0};
+    const uint32_t kept_bits[8] = {YIRVAGUL_BITS, 1, 0, 0, 8, 0, 0, 0};
+    const uint32_t kept_order[8] = {0, 1, 7, 0, 8, 0, 0, 0};
+    const uint32_t kept_wide[8] = {0, 1, 0, 1, 8, 0, 0, 0};
+    expect_layout(yirvagul_set_sign(bits, YIRVAGUL_SIGNED), 9, bits, kept_bits, "sign on bits");
+    expect_layout(yirvagul_set_size(order, 2), 9, order, kept_order, "a layout with no order");
+    expect_layout(yirvagul_set_size(wide, 2), 9, wide, kept_wide, "a layout that breaks the rules");
+}
+
+int main(void) {
+    test_copying();
+    test_in_place();
+    test_list();
+    test_table();
+    test_setters();
+    test_faulty_layouts();
+    return failed;
+}

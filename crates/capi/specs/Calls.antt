@@ -1,0 +1,28 @@
+-- The converting calls and the leaf list with numbers for their answer: what each returns, and every word and byte that it leaves.
+use mathlib.Core.Path.{_≡_}
+use mathlib.Core.List.{List, [], _∷_}
+use Prim.Native.Nat.{ℕ}
+use Rattle.answer.specs.declared.Answer.{Answer}
+use Rattle.answer.specs.Answer.{numberOf, valuesOf}
+use Rattle.convert.specs.Run.{Run, answer, after, tableAfter}
+
+-- an answer as eight words: its number, every field beside it, and two words for later, which are 0
+abbrev pub wordsOf : Answer → List ℕ
+wordsOf a =
+    numberOf a ∷ valuesOf a .count ∷ valuesOf a .line ∷ valuesOf a .«record» ∷ valuesOf a .at ∷ valuesOf a .kind ∷ 0 ∷ 0 ∷ []
+
+-- an answer given to C: the returned number r, and the words
+pub record Gives (a : Answer) (r : ℕ) (words : List ℕ) : Type 0 where
+  pub number : r ≡ numberOf a
+  pub written : words ≡ wordsOf a
+
+-- a call that answers a and leaves its buffer as `left` and the table as every call leaves it: the returned number, the answer's words, the buffer, the table
+pub record Called (a : Answer) (left lent : List ℕ) (r : ℕ) (words out table : List ℕ) : Type 0 where
+  pub number : r ≡ numberOf a
+  pub written : words ≡ wordsOf a
+  pub leaves : out ≡ left
+  pub clears : table ≡ tableAfter a lent
+
+-- a call of a converting form
+abbrev pub Converts : Run → ℕ → List ℕ → List ℕ → List ℕ → Type 0
+Converts run r words out table = Called (answer run) (after run) (run .table) r words out table

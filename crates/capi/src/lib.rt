@@ -1,0 +1,144 @@
+// The calls for C: an answer and a layout are eight words each, lent by one pointer; a slice is a pointer and a length.
+ghost use lib.ListN.{length};
+ghost use Rattle.convert.specs.Run.{copyingRun, inPlaceRun, plain};
+ghost use Rattle.leaves.specs.LeafList.{answerOf, listAfter};
+ghost use Rattle.capi.specs.Calls.{Gives, Called, Converts};
+use answer::Answer;
+use answer::number_of;
+use answer::values_of;
+
+pub mod codes;
+pub mod setters;
+
+// Writes an answer's words and gives its number.
+fn give(a: Answer, words: &mut [u64; 8]) -> u32
+    ensures { λ r. ⌜ Gives a r (now (words .exit)) ⌝ }
+{
+    let number = number_of(a);
+    let v = values_of(a);
+    *words = [
+        number as u64,
+        v.count,
+        v.line as u64,
+        v.record as u64,
+        v.at as u64,
+        v.kind as u64,
+        0,
+        0,
+    ];
+    number
+}
+
+// Copying: the destination's own bytes are the background.
+#[no_mangle]
+pub extern "C" fn yirvagul_convert_copying(
+    source_sheet: &[u8],
+    destination_sheet: &[u8],
+    count: u64,
+    handling: u32,
+    source: &[u8],
+    destination: &mut [u8],
+    table: &mut [u32],
+    words: &mut [u64; 8],
+) -> u32
+    ensures { λ r. ⌜ Converts (copyingRun (now («source_sheet» .entry)) (now («destination_sheet» .entry)) count handling (now (source .entry)) (now (destination .entry)) (now (table .entry))) r (now (words .exit)) (now (destination .exit)) (now (table .exit)) ⌝ }
+{
+    let a = convert::convert_copying(
+        source_sheet,
+        destination_sheet,
+        count,
+        handling,
+        source,
+        destination,
+        table,
+    );
+    give(a, words)
+}
+
+// Copying, with handling 0.
+#[no_mangle]
+pub extern "C" fn yirvagul_convert_copying_plain(
+    source_sheet: &[u8],
+    destination_sheet: &[u8],
+    count: u64,
+    source: &[u8],
+    destination: &mut [u8],
+    table: &mut [u32],
+    words: &mut [u64; 8],
+) -> u32
+    ensures { λ r. ⌜ Converts (copyingRun (now («source_sheet» .entry)) (now («destination_sheet» .entry)) count plain (now (source .entry)) (now (destination .entry)) (now (table .entry))) r (now (words .exit)) (now (destination .exit)) (now (table .exit)) ⌝ }
+{
+    let a = convert::convert_copying_plain(
+        source_sheet,
+        destination_sheet,
+        count,
+        source,
+        destination,
+        table,
+    );
+    give(a, words)
+}
+
+// In place: one buffer, and a separate background.
+#[no_mangle]
+pub extern "C" fn yirvagul_convert_in_place(
+    source_sheet: &[u8],
+    destination_sheet: &[u8],
+    count: u64,
+    handling: u32,
+    buffer: &mut [u8],
+    background: &[u8],
+    table: &mut [u32],
+    words: &mut [u64; 8],
+) -> u32
+    ensures { λ r. ⌜ Converts (inPlaceRun (now («source_sheet» .entry)) (now («destination_sheet» .entry)) count handling (now (buffer .entry)) (now (background .entry)) (now (table .entry))) r (now (words .exit)) (now (buffer .exit)) (now (table .exit)) ⌝ }
+{
+    let a = convert::convert_in_place(
+        source_sheet,
+        destination_sheet,
+        count,
+        handling,
+        buffer,
+        background,
+        table,
+    );
+    give(a, words)
+}
+
+// In place, with handling 0.
+#[no_mangle]
+pub extern "C" fn yirvagul_convert_in_place_plain(
+    source_sheet: &[u8],
+    destination_sheet: &[u8],
+    count: u64,
+    buffer: &mut [u8],
+    background: &[u8],
+    table: &mut [u32],
+    words: &mut [u64; 8],
+) -> u32
+    ensures { λ r. ⌜ Converts (inPlaceRun (now («source_sheet» .entry)) (now («destination_sheet» .entry)) count plain (now (buffer .entry)) (now (background .entry)) (now (table .entry))) r (now (words .exit)) (now (buffer .exit)) (now (table .exit)) ⌝ }
+{
+    let a = convert::convert_in_place_plain(
+        source_sheet,
+        destination_sheet,
+        count,
+        buffer,
+        background,
+        table,
+    );
+    give(a, words)
+}
+
+// Writes the leaf list of a sheet.
+#[no_mangle]
+pub extern "C" fn yirvagul_leaf_list(
+    sheet: &[u8],
+    list: &mut [u8],
+    table: &mut [u32],
+    words: &mut [u64; 8],
+) -> u32
+    ensures { λ r. ⌜ Called (answerOf (now (sheet .entry)) (length (now (list .entry))) (length (now (table .entry)))) (listAfter (now (sheet .entry)) (now (list .entry)) (length (now (table .entry)))) (now (table .entry)) r (now (words .exit)) (now (list .exit)) (now (table .exit)) ⌝ }
+{
+    let a = leaves::leaf_list(sheet, list, table);
+    give(a, words)
+}

@@ -1,0 +1,91 @@
+-- How long numbers and lists can be. Assumes nothing.
+use mathlib.Core.Path.{_≡_, refl, _∙_}
+use mathlib.Core.Bool.{Bool, true, false}
+use mathlib.Core.List.{List, [], _∷_, _++_}
+use mathlib.Core.Option.{Option, none, some}
+use Prim.Native.Nat.{ℕ, zero, suc, _+_, _*_, _/_, _≤_, _<_}
+use native.Mathlib.Omega.{arith}
+use borrow.Author.Tests.{ltb-true, ltb-false}
+use lib.Dec.{ltb}
+use lib.ListN.{length, length-append}
+use Rattle.layout.specs.declared.Class.{Class}
+use Rattle.layout.specs.declared.Class.the-variants.{Int, Bits}
+use Rattle.datatype.specs.Datatype.{Leaf, leafSize, Datatype, size}
+use Rattle.datatype.specs.Datatype.Leaf.{atomic, enumeration}
+use Rattle.datatype.specs.Datatype.Datatype.{leaf}
+use Rattle.datatype.specs.Symbols.{onSome}
+use Rattle.datatype.specs.Leaves.{leafAt}
+use Rattle.datatype.specs.WellFormed.{WellFormed}
+use Rattle.datatype.proofs.Ways.{leaf-way, way-formed, valid}
+use Rattle.datatype.proofs.Matches.{size-most}
+use Rattle.text.specs.Text.{bytes, tab, newline}
+use Rattle.text.specs.Field.{decimalOf}
+use Rattle.text.proofs.Decimals.{length-small, length-large}
+use Rattle.sheet.specs.Sheet.{sheetOf}
+use Rattle.sheet.specs.Sheet.Sheet.{ofType}
+use Rattle.sheet.proofs.ReadWellFormed.{read-well-formed}
+use Rattle.leaves.specs.LeafList.{atomicName, className, leafLine, leafLines, leafList}
+
+-- ---- numbers
+
+-- every number up to c has at most k digits
+abbrev Digits : ℕ → ℕ → Type 0
+Digits c k = (n : ℕ) → n ≤ c → length (decimalOf n) ≤ k
+
+one : Digits 9 1
+one n h = omega (arith, length-small n (omega arith))
+
+more : {c k : ℕ} → 1 ≤ k → Digits c k → Digits (c * 10 + 9) (k + 1)
+more {c} {k} g d n h = go (ltb n 10) refl
+  where
+    go : (t : Bool) → ltb n 10 ≡ t → length (decimalOf n) ≤ k + 1
+    go true e = omega (arith, length-small n (ltb-true n 10 e))
+    go false e = omega (arith, length-large n (ltb-false n 10 e), d (n / 10) (omega arith))
+
+four : Digits 9999 4
+four = more (omega arith) (more (omega arith) (more (omega arith) one))
+
+ten : Digits 9999999999 10
+ten = more (omega arith) (more (omega arith) (more (omega arith) (more (omega arith) (more (omega arith) (more (omega arith) four)))))
+
+-- a 32-bit number
+pub word-digits : (n : ℕ) → n < 4294967296 → length (decimalOf n) ≤ 10
+word-digits n h = ten n (omega arith)
+
+-- ---- lists
+
+name-most : (x : Leaf) → length (className x) ≤ 4
+name-most (atomic l) = go (l .class)
+  where
+    go : (c : Class) → length (atomicName c) ≤ 4
+    go Int = omega arith
+    go Bits = omega arith
+name-most (enumeration l ss) = omega arith
+
+line-length : (b : ℕ) (x : Leaf) → length (leafLine b x) ≡ length (decimalOf b) + (1 + length (decimalOf (leafSize x))) + (1 + length (className x)) + 1
+line-length b x =
+    length-append (decimalOf b ++ (tab ∷ decimalOf (leafSize x)) ++ (tab ∷ className x)) (newline ∷ [])
+    ∙ omega (arith, length-append (decimalOf b ++ (tab ∷ decimalOf (leafSize x))) (tab ∷ className x), length-append (decimalOf b) (tab ∷ decimalOf (leafSize x)))
+
+module _ (T : Datatype) (formed : WellFormed T) where
+  line-most : (b : ℕ) → b ≤ 4095 → length (onSome (leafLine b) [] (leafAt T b)) ≤ 12
+  line-most b h = go (leafAt T b) refl
+    where
+      go : (o : Option Leaf) → leafAt T b ≡ o → length (onSome (leafLine b) [] o) ≤ 12
+      go none e = omega arith
+      go (some x) e =
+          let f : WellFormed (leaf x) = way-formed (leaf-way T formed e) formed in
+          omega (arith, line-length b x, four b (omega arith), one (leafSize x) (omega (arith, valid x f .sized)), name-most x)
+
+  lines-most : (b k : ℕ) → b + k ≤ 4096 → length (leafLines T b k) ≤ 12 * k
+  unfolding leafLines
+  lines-most b zero h = omega arith
+  lines-most b (suc k) h =
+      omega (arith, length-append (onSome (leafLine b) [] (leafAt T b)) (leafLines T (suc b) k), line-most b (omega arith), lines-most (suc b) k (omega arith))
+
+-- the longest list: a header of 14 bytes, and at most 4,096 lines of at most 12 bytes
+pub list-most : (text : List ℕ) (T : Datatype) → sheetOf text ≡ ofType T → length (leafList T) ≤ 49166
+unfolding leafList
+list-most text T e =
+    let f : WellFormed T = read-well-formed text T e in
+    omega (arith, length-append (bytes "at\tsize\tclass\n") (leafLines T 0 (size T)), size-most T f, lines-most T f 0 (size T) (omega (arith, size-most T f)))

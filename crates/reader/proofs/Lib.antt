@@ -1,0 +1,2 @@
+-- What the proofs of several functions use, and the laws over the definitions.
+pub mod Lines

@@ -1,0 +1,156 @@
+/* Yirvagul: converts records of instrument logs from one binary layout to another, in place or copying, lists a layout's leaves, and edits atomic layouts.
+ *
+ * Link with libcapi.a. Every call is proved against a definition of what it answers and of every byte that it leaves; it keeps nothing between calls,
+ * allocates nothing and can be called from several threads at once, each with its own buffers.
+ *
+ * What a caller owes, since C cannot say it in a type:
+ *   - each pointer points at as many elements as the length beside it says, and is not NULL, also where that length is 0;
+ *   - a buffer that is written (destination, buffer, list, table, answer, layout) overlaps no other argument.
+ *
+ * Sheets are text: lines ended by byte 10, fields parted by one tab, for example a compound of one 12-bit pressure:
+ *
+ *     int	2	BE	4	12	zero	zero	unsigned
+ *     comp	2
+ *     member	boost	0	0
+ */
+#ifndef YIRVAGUL_H
+#define YIRVAGUL_H
+
+#include <stddef.h>
+#include <stdint.h>
+
+#ifdef __cplusplus
+extern "C" {
+#endif
+
+/* The working table that the converting calls and the list read sheets into: lend at least this many 32-bit words. What it held does not matter. Its
+ * first 8,192 words are zero after every call, except after HANDLING and TABLE, which leave it as it was; words beyond never change. */
+#define YIRVAGUL_TABLE_WORDS 8192
+
+/* ---- what a call answers ---- */
+
+/* The number that each call returns: done, or the first check that fails. A refusal leaves the data buffers, the list and the layout unchanged. */
+enum {
+    /* Done. */
+    YIRVAGUL_DONE = 0,
+    /* handling is neither 0 nor 1. Pass YIRVAGUL_CLAMP or YIRVAGUL_STOP_FIRST. */
+    YIRVAGUL_HANDLING = 1,
+    /* The table has fewer than YIRVAGUL_TABLE_WORDS words. Lend a longer one. */
+    YIRVAGUL_TABLE = 2,
+    /* The source sheet (of the list, the only sheet) is faulty at `line`, counted from 1. Correct that line: a line is judged by itself and the lines
+     * before it. Line 0: the sheet is longer than 16,384 bytes. A last line without byte 10 is faulty at its own number. */
+    YIRVAGUL_SOURCE = 3,
+    /* The destination sheet is faulty at `line`, likewise. */
+    YIRVAGUL_DESTINATION = 4,
+    /* The source type has no path to the destination type. Give members of one name the same class, and arrays the same number of elements. */
+    YIRVAGUL_PATH = 5,
+    /* count is above 65,536. Convert in parts. */
+    YIRVAGUL_COUNT = 6,
+    /* A buffer is too short, with S and D for the sizes of a source and a destination record: the source for count * S bytes, the destination or the
+     * background for count * D, the in-place buffer for count * max(S, D), or the list. Lend a longer one. */
+    YIRVAGUL_ROOM = 7,
+    /* Handling is stop, and a number does not fit: the first such leaf is `at` bytes into destination record `record`, and `kind` says why. Widen the
+     * destination layout there, or convert with YIRVAGUL_CLAMP. */
+    YIRVAGUL_STOP = 8,
+    /* A setter's argument or result is outside its rule, or the layout already was. Pass a valid layout and an argument within the rule. */
+    YIRVAGUL_RANGE = 9
+};
+
+/* The answer's eight words. Each converting call and the list write all of them; a word that the number does not name is 0. */
+enum {
+    YIRVAGUL_ANSWER_NUMBER = 0, /* what the call returned */
+    YIRVAGUL_ANSWER_COUNT = 1,  /* done: how many leaves raised an exception; of the list, its length in bytes */
+    YIRVAGUL_ANSWER_LINE = 2,   /* SOURCE, DESTINATION: the first faulty line */
+    YIRVAGUL_ANSWER_RECORD = 3, /* STOP: the record, from 0 */
+    YIRVAGUL_ANSWER_AT = 4,     /* STOP: the leaf's first byte in its destination record, from 0 */
+    YIRVAGUL_ANSWER_KIND = 5    /* STOP: the kind of exception; words 6 and 7 are for later, and 0 */
+};
+
+/* Kinds of exception, and what clamping writes. */
+enum {
+    YIRVAGUL_ABOVE = 1,    /* the number is above the destination's range: the largest is written */
+    YIRVAGUL_BELOW = 2,    /* it is below it: the smallest is written */
+    YIRVAGUL_NO_SYMBOL = 3 /* an enum's number has no symbol, or its symbol is not in the destination: all significant bits are one */
+};
+
+/* ---- converting ---- */
+
+/* What handling says of numbers that do not fit. */
+enum {
+    YIRVAGUL_CLAMP = 0,     /* write the nearest that fits, and count it */
+    YIRVAGUL_STOP_FIRST = 1 /* refuse with STOP before anything is written */
+};
+
+/* Converts count records of source into destination. The destination's own bytes are the background: bits that no matched leaf fixes stay, and so do
+ * pads that are `keep`. Bytes behind the count records stay. */
+uint32_t yirvagul_convert_copying(const uint8_t *source_sheet, size_t source_sheet_len, const uint8_t *destination_sheet, size_t destination_sheet_len,
+                                  uint64_t count, uint32_t handling, const uint8_t *source, size_t source_len, uint8_t *destination,
+                                  size_t destination_len, uint32_t *table, size_t table_len, uint64_t answer[8]);
+
+/* The same without handling: it clamps, so it never answers HANDLING or STOP. */
+uint32_t yirvagul_convert_copying_plain(const uint8_t *source_sheet, size_t source_sheet_len, const uint8_t *destination_sheet,
+                                        size_t destination_sheet_len, uint64_t count, const uint8_t *source, size_t source_len, uint8_t *destination,
+                                        size_t destination_len, uint32_t *table, size_t table_len, uint64_t answer[8]);
+
+/* Converts count records where they lie. With S and D for the sizes of a source and a destination record, the buffer holds count * S bytes of source
+ * before the call; after it bytes 0 to count * D - 1 are the converted records, bytes up to count * S - 1 (if S is larger) are zero, and later ones
+ * stay. The background, count * D bytes, gives the bits that no matched leaf fixes. */
+uint32_t yirvagul_convert_in_place(const uint8_t *source_sheet, size_t source_sheet_len, const uint8_t *destination_sheet, size_t destination_sheet_len,
+                                   uint64_t count, uint32_t handling, uint8_t *buffer, size_t buffer_len, const uint8_t *background,
+                                   size_t background_len, uint32_t *table, size_t table_len, uint64_t answer[8]);
+
+/* The same without handling: it clamps. */
+uint32_t yirvagul_convert_in_place_plain(const uint8_t *source_sheet, size_t source_sheet_len, const uint8_t *destination_sheet,
+                                         size_t destination_sheet_len, uint64_t count, uint8_t *buffer, size_t buffer_len, const uint8_t *background,
+                                         size_t background_len, uint32_t *table, size_t table_len, uint64_t answer[8]);
+
+/* ---- the leaf list ---- */
+
+/* A list buffer of this many bytes holds the list of any sheet: the header, and a line for each of 4,096 one-byte leaves. */
+#define YIRVAGUL_LIST_BYTES (14 + 4096 * 12)
+
+/* Writes every leaf of the sheet's type in byte order, a line each, under a header: `at`, `size` and `class` parted by tabs. Done gives the list's
+ * length; bytes past it stay. Answers DONE, TABLE, SOURCE or ROOM. */
+uint32_t yirvagul_leaf_list(const uint8_t *sheet, size_t sheet_len, uint8_t *list, size_t list_len, uint32_t *table, size_t table_len,
+                            uint64_t answer[8]);
+
+/* ---- setters ---- */
+
+/* A layout of an int or bits type as eight words. */
+enum {
+    YIRVAGUL_LAYOUT_CLASS = 0,     /* YIRVAGUL_INT or YIRVAGUL_BITS */
+    YIRVAGUL_LAYOUT_SIZE = 1,      /* 1 to 8 bytes */
+    YIRVAGUL_LAYOUT_ORDER = 2,     /* YIRVAGUL_LE or YIRVAGUL_BE */
+    YIRVAGUL_LAYOUT_OFFSET = 3,    /* in bits; offset + precision is at most 8 * size */
+    YIRVAGUL_LAYOUT_PRECISION = 4, /* 1 to 64 bits */
+    YIRVAGUL_LAYOUT_LSB = 5,       /* the pad of the lower bits: YIRVAGUL_PAD_ZERO, _ONE or _KEEP */
+    YIRVAGUL_LAYOUT_MSB = 6,       /* the pad of the higher bits */
+    YIRVAGUL_LAYOUT_SIGN = 7       /* YIRVAGUL_UNSIGNED or YIRVAGUL_SIGNED; of a bits type, YIRVAGUL_UNSIGNED */
+};
+
+enum { YIRVAGUL_INT = 0, YIRVAGUL_BITS = 1 };
+enum { YIRVAGUL_LE = 0, YIRVAGUL_BE = 1 };
+enum { YIRVAGUL_PAD_ZERO = 0, YIRVAGUL_PAD_ONE = 1, YIRVAGUL_PAD_KEEP = 2 };
+enum { YIRVAGUL_UNSIGNED = 0, YIRVAGUL_SIGNED = 1 };
+
+/* Each setter edits the layout's words and returns DONE; or it returns RANGE and leaves them. RANGE is returned too where the given layout breaks the
+ * rules above, or where a word or an argument is none of its codes. */
+
+/* 1 to 8. Precision and offset shrink to what the size holds. */
+uint32_t yirvagul_set_size(uint32_t layout[8], uint32_t size);
+/* YIRVAGUL_LE or YIRVAGUL_BE. */
+uint32_t yirvagul_set_order(uint32_t layout[8], uint32_t order);
+/* 1 to 64. Where it no longer fits at its offset, the offset moves down and the size grows. */
+uint32_t yirvagul_set_precision(uint32_t layout[8], uint32_t precision);
+/* The size grows to hold the moved bits; RANGE if it would pass 8. */
+uint32_t yirvagul_set_offset(uint32_t layout[8], uint32_t offset);
+/* YIRVAGUL_PAD_ZERO, YIRVAGUL_PAD_ONE or YIRVAGUL_PAD_KEEP, for the lower bits and for the higher ones. */
+uint32_t yirvagul_set_pads(uint32_t layout[8], uint32_t lsb, uint32_t msb);
+/* YIRVAGUL_UNSIGNED or YIRVAGUL_SIGNED; RANGE on a bits layout. */
+uint32_t yirvagul_set_sign(uint32_t layout[8], uint32_t sign);
+
+#ifdef __cplusplus
+}
+#endif
+
+#endif

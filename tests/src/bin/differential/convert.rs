@@ -1,0 +1,210 @@
+//! Cases of the four converting calls.
+
+use crate::damage::damage;
+use crate::derive::derive;
+use crate::generate;
+use crate::limits;
+use crate::lines;
+use crate::model::Model;
+use crate::random::Random;
+use crate::records::records;
+use crate::run::{self, FORMS, Run};
+use crate::tally::Tally;
+use independent::datatype::Datatype;
+use independent::paths::{self, Match};
+use independent::sheet;
+
+/// A run like most, each check failing in so many of a hundred.
+pub fn case(random: &mut Random, tally: &mut Tally, spoil: u64) -> Result<(), String> {
+    let (from, to) = sheets(random, spoil);
+    let run = make(random, spoil, from, to);
+    finish(random, tally, &run)
+}
+
+/// A run between sheets at the limits.
+pub fn limit_case(random: &mut Random, tally: &mut Tally) -> Result<(), String> {
+    let (from, to) = if random.percent(60) {
+        let model = limits::valid(random);
+        (model.text(), derive(random, &model).text())
+    } else {
+        (limits::sheet(random), limits::sheet(random))
+    };
+    let run = make(random, 3, from, to);
+    finish(random, tally, &run)
+}
+
+/// 65,536 records of a few bytes.
+pub fn long_case(random: &mut Random, tally: &mut Tally) -> Result<(), String> {
+    let model = generate::sheet(random, 3);
+    let (from, to) = (model.text(), derive(random, &model).text());
+    let mut run = make(random, 0, from, to);
+    run.count = 65_536;
+    with_types(
+        &run.source_sheet.clone(),
+        &run.destination_sheet.clone(),
+        |from, to, matches| {
+            run.first = records(random, from.size(), run.count, matches);
+            if !run.form.is_copying() {
+                let longer = from.size().max(to.size()) * run.count;
+                run.first.resize(longer as usize, 0xA5);
+            }
+            run.second = random.bytes((to.size() * run.count) as usize);
+        },
+    );
+    finish(random, tally, &run)
+}
+
+fn finish(random: &mut Random, tally: &mut Tally, run: &Run) -> Result<(), String> {
+    let seen = run::both(random, run)?;
+    crate::events::note(tally, run, &seen);
+    Ok(())
+}
+
+/// Calls with both datatypes and the matches, if there is a path.
+pub fn with_types<T>(
+    from: &[u8],
+    to: &[u8],
+    then: impl FnOnce(&Datatype, &Datatype, &[Match]) -> T,
+) -> Option<T> {
+    let (from, to) = (sheet::read(from).ok()?, sheet::read(to).ok()?);
+    paths::has_path(&from, &to).then(|| then(&from, &to, &paths::matches(&from, &to)))
+}
+
+/// A model for a source sheet of any of several scales.
+pub fn model(random: &mut Random) -> Model {
+    let bytes = *random.pick(&[1, 4, 16, 40, 40, 100, 100, 400, 400, 1500, 4096]);
+    generate::sheet(random, bytes)
+}
+
+fn sheets(random: &mut Random, spoil: u64) -> (Vec<u8>, Vec<u8>) {
+    let model = model(random);
+    let other = if random.percent(spoil) {
+        generate::sheet(random, 60)
+    } else {
+        derive(random, &model)
+    };
+    let mut text = |model: Model| {
+        let text = model.text();
+        match random.below(100) {
+            share if share >= spoil => text,
+            share if share % 4 == 0 => lines::sheet(random),
+            _ => damage(random, &text),
+        }
+    };
+    let (from, to) = (text(model), text(other));
+    // Either may be the older one.
+    if random.percent(50) {
+        (from, to)
+    } else {
+        (to, from)
+    }
+}
+
+/// Fills in the rest of a run between two sheets.
+pub fn make(random: &mut Random, spoil: u64, from: Vec<u8>, to: Vec<u8>) -> Run {
+    let handling = if random.percent(spoil) {
+        *random.pick(&[2, 3, 256, 65_536, 1 << 31, u32::MAX])
+    } else {
+        random.below(2) as u32
+    };
+    let words = if random.percent(spoil) {
+        *random.pick(&[0, 1, 4096, 8191])
+    } else {
+        8192 + *random.pick(&[0, 0, 0, 1, 7, 300])
+    };
+    let mut run = Run {
+        form: *random.pick(&FORMS),
+        source_sheet: from,
+        destination_sheet: to,
+        count: 0,
+        handling,
+        first: Vec::new(),
+        second: Vec::new(),
+        table: random.words(words),
+    };
+    fill(random, spoil, &mut run);
+    run
+}
+
+/// Chooses the count and the buffers.
+fn fill(random: &mut Random, spoil: u64, run: &mut Run) {
+    let (from, to) = (run.source_sheet.clone(), run.destination_sheet.clone());
+    let filled = with_types(&from, &to, |from, to, matches| {
+        let work = matches.len() as u64 + (from.size() + to.size()) / 8 + 1;
+        let count = small_count(random, 4000 / work + 1);
+        let source = records(random, from.size(), count, matches);
+        (count, source, from.size(), to.size())
+    });
+    let (count, source, from, to) = filled.unwrap_or_else(|| {
+        let count = random.below(5);
+        (
+            count,
+            random.bytes(64),
+            random.between(1, 20),
+            random.between(1, 20),
+        )
+    });
+    run.count = count;
+    run.first = source;
+    let longer = if run.form.is_copying() {
+        from
+    } else {
+        from.max(to)
+    };
+    let room = (
+        length(random, spoil, count * longer),
+        length(random, spoil, count * to),
+    );
+    let behind = random.bytes(room.0);
+    run.first.truncate(room.0);
+    let kept = run.first.len();
+    run.first.extend_from_slice(&behind[kept..]);
+    run.second = random.bytes(room.1);
+    if random.percent(spoil) {
+        run.count = large_count(random, from);
+    }
+}
+
+fn small_count(random: &mut Random, most: u64) -> u64 {
+    let count = match random.below(12) {
+        0 => 0,
+        1..=3 => 1,
+        4..=9 => random.between(2, 9),
+        _ => random.between(1, most),
+    };
+    count.min(most)
+}
+
+/// Above 65,536, or at it without the room for it.
+fn large_count(random: &mut Random, size: u64) -> u64 {
+    let wraps = (u64::MAX / size).wrapping_add(2);
+    let counts = [
+        65_536,
+        65_537,
+        65_538,
+        131_072,
+        1 << 32,
+        (1 << 32) + 1,
+        1 << 52,
+        1 << 63,
+        (1 << 63) + 1,
+        u64::MAX - 1,
+        u64::MAX,
+        wraps,
+    ];
+    *random.pick(&counts)
+}
+
+/// The length of a buffer for which `needed` bytes are asked.
+fn length(random: &mut Random, spoil: u64, needed: u64) -> usize {
+    let length = if random.percent(spoil) {
+        match random.below(4) {
+            0 => 0,
+            1 => random.between(0, needed),
+            _ => needed.saturating_sub(1),
+        }
+    } else {
+        needed + *random.pick(&[0, 0, 0, 1, 2, 33])
+    };
+    length as usize
+}

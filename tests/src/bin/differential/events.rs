@@ -1,0 +1,81 @@
+//! Notes what a run has met.
+
+use crate::run::{Run, Seen};
+use crate::tally::Tally;
+use independent::paths;
+use independent::sheet;
+
+pub fn note(tally: &mut Tally, run: &Run, seen: &Seen) {
+    let [number, count, line, record, at, kind, ..] = seen.answer;
+    tally.answer(run.form.name(), number);
+    match number {
+        0 if count > 0 => tally.saw("done with an exception"),
+        0 if run.count == 0 => tally.saw("done of no record"),
+        3 if line == 0 => tally.saw("SOURCE at line 0"),
+        3 if line > 250 => tally.saw("SOURCE past line 250"),
+        4 if line == 0 => tally.saw("DESTINATION at line 0"),
+        8 => {
+            tally.saw(&format!("STOP kind {kind}"));
+            if record > 0 {
+                tally.saw("STOP past record 0");
+            }
+            if at > 0 {
+                tally.saw("STOP past byte 0");
+            }
+        }
+        _ => {}
+    }
+    if number == 0 && run.count == 65_536 {
+        tally.saw("done of 65,536 records");
+    }
+    note_sizes(tally, run, number);
+    note_pairs(tally, run);
+}
+
+fn note_sizes(tally: &mut Tally, run: &Run, number: u64) {
+    if number != 0 || run.form.is_copying() || run.count < 2 {
+        return;
+    }
+    let size = |text| sheet::read(text).map(|datatype| datatype.size());
+    let sizes = (size(&run.source_sheet), size(&run.destination_sheet));
+    if let (Ok(from), Ok(to)) = sizes {
+        if from < to {
+            tally.saw("in place, growing, several records");
+        }
+        if from > to {
+            tally.saw("in place, shrinking, several records");
+        }
+    }
+}
+
+/// Notes pairs of checks that would both refuse, so that their order shows.
+fn note_pairs(tally: &mut Tally, run: &Run) {
+    let (from, to) = (
+        sheet::read(&run.source_sheet),
+        sheet::read(&run.destination_sheet),
+    );
+    let mut refuses = [false; 8];
+    refuses[1] = !run.form.is_plain() && run.handling > 1;
+    refuses[2] = run.table.len() < 8192;
+    refuses[3] = from.is_err();
+    refuses[4] = to.is_err();
+    refuses[6] = run.count > 65_536;
+    if let (Ok(from), Ok(to)) = (from, to) {
+        refuses[5] = !paths::has_path(&from, &to);
+        let longer = if run.form.is_copying() {
+            from.size()
+        } else {
+            from.size().max(to.size())
+        };
+        let short =
+            |have: usize, size: u64| (have as u128) < u128::from(run.count) * u128::from(size);
+        refuses[7] = short(run.first.len(), longer) || short(run.second.len(), to.size());
+    }
+    for first in 1..8 {
+        for second in first + 1..8 {
+            if refuses[first] && refuses[second] {
+                tally.saw(&format!("{first} and {second} at once"));
+            }
+        }
+    }
+}

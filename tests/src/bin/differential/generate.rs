@@ -1,0 +1,200 @@
+//! Makes valid sheets: nested compounds, arrays, enums, bits and ints.
+
+use crate::model::{Line, Model, Name, Row};
+use crate::random::Random;
+use independent::datatype::{Atomic, Order, Pad};
+
+/// Makes types bottom up, so that each is used by later ones only.
+pub struct Maker<'a> {
+    pub random: &'a mut Random,
+    pub model: Model,
+}
+
+/// A valid sheet with records of at most `bytes` bytes.
+pub fn sheet(random: &mut Random, bytes: u64) -> Model {
+    let mut maker = Maker {
+        random,
+        model: Model::default(),
+    };
+    if maker.random.percent(20) {
+        // Types that nothing uses.
+        for _ in 0..maker.random.between(1, 4) {
+            maker.datatype(bytes, 1);
+        }
+    }
+    let depth = maker.random.below(5);
+    maker.fresh(bytes, depth);
+    maker.model
+}
+
+impl Maker<'_> {
+    /// A new type or one that is there already; its number.
+    pub fn datatype(&mut self, bytes: u64, depth: u64) -> usize {
+        let there = self
+            .model
+            .earlier(self.model.types.len(), |_, size| size <= bytes);
+        // The places left are for the types that wait for this one.
+        let full = self.model.types.len() >= 48 || self.model.rows() >= 200;
+        if !there.is_empty() && (full || self.random.percent(25)) {
+            return *self.random.pick(&there);
+        }
+        self.fresh(bytes, if full { 0 } else { depth })
+    }
+
+    /// A new type, which is the last one then.
+    fn fresh(&mut self, bytes: u64, depth: u64) -> usize {
+        let choice = self.random.below(10);
+        match choice {
+            0 | 1 if depth > 0 => self.array(bytes, depth),
+            2..=6 if depth > 0 => self.compound(bytes, depth),
+            7 => self.enumeration(bytes),
+            8 => {
+                let layout = atomic(self.random, bytes);
+                self.model.push(Line::Bits(Atomic {
+                    signed: false,
+                    ..layout
+                }))
+            }
+            _ => {
+                let layout = atomic(self.random, bytes);
+                self.model.push(Line::Int(layout))
+            }
+        }
+    }
+
+    fn array(&mut self, bytes: u64, depth: u64) -> usize {
+        let mut dimensions = Vec::new();
+        let mut left = bytes;
+        for _ in 0..self.random.between(1, 4) {
+            let dimension = self.random.between(1, left.min(6));
+            left /= dimension;
+            dimensions.push(dimension);
+        }
+        let base = self.datatype(left, depth - 1);
+        self.model.push(Line::Array { base, dimensions })
+    }
+
+    pub fn enumeration(&mut self, bytes: u64) -> usize {
+        let ints = self.model.earlier(self.model.types.len(), |line, size| {
+            matches!(line, Line::Int(_)) && size <= bytes
+        });
+        let base = if !ints.is_empty() && self.random.percent(50) {
+            *self.random.pick(&ints)
+        } else {
+            let layout = atomic(self.random, bytes);
+            self.model.push(Line::Int(layout))
+        };
+        let mut values = Vec::new();
+        for _ in 0..self.random.below(7) {
+            add_value(self.random, self.model.range(base), &mut values);
+        }
+        self.model.push(Line::Enum { base, values })
+    }
+
+    fn compound(&mut self, bytes: u64, depth: u64) -> usize {
+        let mut members: Vec<Row> = Vec::new();
+        let mut left = bytes;
+        for _ in 0..self.random.below(8) {
+            if left == 0 {
+                break;
+            }
+            let most = left.min(1 << self.random.below(11));
+            let datatype = self.datatype(most, depth - 1);
+            left -= self.model.size(datatype);
+            members.push(Row {
+                name: new_name(self.random, |name| {
+                    members.iter().any(|row| row.name == name)
+                }),
+                at: 0,
+                datatype,
+            });
+        }
+        let size = place(self.random, &self.model, &mut members, bytes);
+        self.model.push(Line::Comp { size, members })
+    }
+}
+
+/// Places members in any order, often with gaps; gives a size with room for
+/// them, at most `bytes`.
+pub fn place(random: &mut Random, model: &Model, members: &mut [Row], bytes: u64) -> u64 {
+    let taken: u64 = members.iter().map(|row| model.size(row.datatype)).sum();
+    let mut gaps = if random.percent(50) { bytes - taken } else { 0 };
+    let mut order: Vec<usize> = (0..members.len()).collect();
+    if random.percent(40) {
+        random.shuffle(&mut order);
+    }
+    let mut gap = |random: &mut Random| {
+        let gap = gaps.min(*random.pick(&[0, 0, 1, 2, 5]));
+        gaps -= gap;
+        gap
+    };
+    let mut at = 0;
+    for i in order {
+        at += gap(random);
+        members[i].at = at;
+        at += model.size(members[i].datatype);
+    }
+    (at + gap(random)).max(1)
+}
+
+/// Adds a value with a new name and a new number, if one is easily found.
+pub fn add_value(random: &mut Random, range: (i128, i128), values: &mut Vec<(Name, i128)>) {
+    let number = random.number(range.0, range.1);
+    if values.iter().all(|value| value.1 != number) {
+        let name = new_name(random, |name| values.iter().any(|value| value.0 == name));
+        values.push((name, number));
+    }
+}
+
+/// Any valid atomic layout of at most `bytes` bytes.
+pub fn atomic(random: &mut Random, bytes: u64) -> Atomic {
+    let size = random.between(1, bytes.min(8));
+    let precision = match random.below(4) {
+        0 => 8 * size,
+        1 => *random.pick(&[1, 8 * size - 1, 2]),
+        _ => random.between(1, 8 * size),
+    };
+    let spare = 8 * size - precision;
+    let offset = match random.below(4) {
+        0 => 0,
+        1 => spare,
+        _ => random.between(0, spare),
+    };
+    Atomic {
+        size,
+        order: *random.pick(&[Order::LittleEndian, Order::BigEndian]),
+        offset,
+        precision,
+        lsb: *random.pick(&[Pad::Zero, Pad::One, Pad::Keep]),
+        msb: *random.pick(&[Pad::Zero, Pad::One, Pad::Keep]),
+        signed: random.percent(50),
+    }
+}
+
+/// A name that is not taken, mostly a short one, so that names meet.
+pub fn new_name(random: &mut Random, taken: impl Fn(&[u8]) -> bool) -> Name {
+    loop {
+        let name = any_name(random);
+        if !taken(&name) {
+            return name;
+        }
+    }
+}
+
+fn any_name(random: &mut Random) -> Name {
+    let short: [&[u8]; 12] = [
+        b"a", b"b", b"c", b"d", b"e", b"f", b"p", b"pr", b"pre", b"A", b"!", b"~",
+    ];
+    match random.below(8) {
+        // Names that differ in the last byte alone.
+        0 => {
+            let mut name = vec![b'n'; *random.pick(&[30, 31]) - 1];
+            name.push(*random.pick(b"xyz"));
+            name
+        }
+        1 => (0..random.between(1, 31))
+            .map(|_| random.between(33, 126) as u8)
+            .collect(),
+        _ => random.pick(&short).to_vec(),
+    }
+}

@@ -1,0 +1,127 @@
+//! Holds the proved library against the independent converter.
+//!
+//! `differential` runs all cases of the fixed seed, `--seed N` those of
+//! another, `--cases M` so many, and `--seed N --case K` one alone.
+
+mod capi;
+mod convert;
+mod damage;
+mod derive;
+mod events;
+mod generate;
+mod lent;
+mod limits;
+mod lines;
+mod model;
+mod others;
+mod properties;
+mod random;
+mod records;
+mod run;
+mod tally;
+mod watch;
+
+use random::Random;
+use tally::Tally;
+
+const SEED: u64 = 20_260_101;
+const CASES: u64 = 60_000;
+
+#[derive(Default)]
+pub struct Options {
+    seed: Option<u64>,
+    case: Option<u64>,
+    cases: Option<u64>,
+    /// Set in the process that calls the library; the other one watches it.
+    watched: bool,
+}
+
+fn main() {
+    let Some(options) = options() else {
+        eprintln!("usage: differential [--seed N] [--case K | --cases M]");
+        std::process::exit(2);
+    };
+    let holds = if options.watched {
+        run_cases(&options)
+    } else {
+        watch::watch(options.seed.unwrap_or(SEED))
+    };
+    std::process::exit(if holds { 0 } else { 1 });
+}
+
+fn options() -> Option<Options> {
+    let mut options = Options::default();
+    let mut words = std::env::args().skip(1);
+    while let Some(word) = words.next() {
+        if word == watch::WATCHED {
+            options.watched = true;
+            continue;
+        }
+        let number = words.next()?.parse().ok()?;
+        match word.as_str() {
+            "--seed" => options.seed = Some(number),
+            "--case" => options.case = Some(number),
+            "--cases" => options.cases = Some(number),
+            _ => return None,
+        }
+    }
+    Some(options)
+}
+
+/// The command that runs one case alone, from the top of the repository.
+pub fn command(seed: u64, case: u64) -> String {
+    format!("tests/run --seed {seed} --case {case}")
+}
+
+fn run_cases(options: &Options) -> bool {
+    let seed = options.seed.unwrap_or(SEED);
+    let cases = match options.case {
+        Some(case) => case..case + 1,
+        None => 0..options.cases.unwrap_or(CASES),
+    };
+    let mut tally = Tally::default();
+    for case in cases.clone() {
+        watch::tell_case(case);
+        if let Err(fault) = run_case(&mut Random::new(seed, case), &mut tally) {
+            println!("case {case} of seed {seed} differs:\n{fault}");
+            println!("to run it alone: {}", command(seed, case));
+            return false;
+        }
+    }
+    tally.print();
+    println!("{} cases of seed {seed} hold", cases.end - cases.start);
+    // Fewer cases cannot meet everything.
+    let missing = if cases.end - cases.start < CASES {
+        Vec::new()
+    } else {
+        tally.missing()
+    };
+    for what in &missing {
+        println!("never seen: {what}");
+    }
+    missing.is_empty()
+}
+
+fn run_case(random: &mut Random, tally: &mut Tally) -> Result<(), String> {
+    let choice = random.below(1000);
+    let (kind, result) = match choice {
+        0 => (
+            "conversion of 65,536 records",
+            convert::long_case(random, tally),
+        ),
+        1..=29 => (
+            "conversion at the limits",
+            convert::limit_case(random, tally),
+        ),
+        30..=349 => ("conversion", convert::case(random, tally, 4)),
+        350..=549 => (
+            "conversion with many refusals",
+            convert::case(random, tally, 35),
+        ),
+        550..=799 => ("leaf list", others::list_case(random, tally)),
+        800..=894 => ("setters", others::setter_case(random, tally)),
+        _ => ("properties", properties::case(random, tally)),
+    };
+    tally.saw(&format!("case: {kind}"));
+    result.map_err(|fault| format!("({kind}) {fault}"))
+}

@@ -1,0 +1,146 @@
+//! Sheets as the generator holds them: the lines' fields, not yet text.
+
+use independent::datatype::{Atomic, Order, Pad};
+use independent::number;
+
+pub type Name = Vec<u8>;
+
+#[derive(Clone)]
+pub enum Line {
+    Int(Atomic),
+    Bits(Atomic),
+    Enum {
+        base: usize,
+        values: Vec<(Name, i128)>,
+    },
+    Comp {
+        size: u64,
+        members: Vec<Row>,
+    },
+    Array {
+        base: usize,
+        dimensions: Vec<u64>,
+    },
+}
+
+/// A member line.
+#[derive(Clone)]
+pub struct Row {
+    pub name: Name,
+    pub at: u64,
+    pub datatype: usize,
+}
+
+#[derive(Clone, Default)]
+pub struct Model {
+    pub types: Vec<Line>,
+}
+
+impl Model {
+    pub fn push(&mut self, line: Line) -> usize {
+        self.types.push(line);
+        self.types.len() - 1
+    }
+
+    /// In bytes. Saturates where the sheet is not valid.
+    pub fn size(&self, datatype: usize) -> u64 {
+        match &self.types[datatype] {
+            Line::Int(layout) | Line::Bits(layout) => layout.size,
+            Line::Enum { base, .. } => self.size(*base),
+            Line::Comp { size, .. } => *size,
+            Line::Array { base, dimensions } => dimensions
+                .iter()
+                .fold(self.size(*base), |size, d| size.saturating_mul(*d)),
+        }
+    }
+
+    /// Value and member lines.
+    pub fn rows(&self) -> usize {
+        let rows = |line: &Line| match line {
+            Line::Enum { values, .. } => values.len(),
+            Line::Comp { members, .. } => members.len(),
+            _ => 0,
+        };
+        self.types.iter().map(rows).sum()
+    }
+
+    /// The range of an enum's numbers.
+    pub fn range(&self, base: usize) -> (i128, i128) {
+        match &self.types[base] {
+            Line::Int(layout) => number::range(layout),
+            _ => unreachable!("an enum's base is an int"),
+        }
+    }
+
+    /// Types with a lower number than `user` that pass a test.
+    pub fn earlier(&self, user: usize, fits: impl Fn(&Line, u64) -> bool) -> Vec<usize> {
+        (0..user)
+            .filter(|&i| fits(&self.types[i], self.size(i)))
+            .collect()
+    }
+
+    pub fn text(&self) -> Vec<u8> {
+        let mut text = Vec::new();
+        for line in &self.types {
+            write_type(&mut text, line);
+        }
+        text
+    }
+}
+
+fn write_type(text: &mut Vec<u8>, line: &Line) {
+    match line {
+        Line::Int(layout) => {
+            let sign = if layout.signed { "signed" } else { "unsigned" };
+            put(text, &format!("int\t{}\t{sign}\n", atomic(layout)));
+        }
+        Line::Bits(layout) => put(text, &format!("bits\t{}\n", atomic(layout))),
+        Line::Enum { base, values } => {
+            put(text, &format!("enum\t{base}\n"));
+            for (name, number) in values {
+                put(text, "value\t");
+                text.extend(name);
+                put(text, &format!("\t{number}\n"));
+            }
+        }
+        Line::Comp { size, members } => {
+            put(text, &format!("comp\t{size}\n"));
+            for row in members {
+                put(text, "member\t");
+                text.extend(&row.name);
+                put(text, &format!("\t{}\t{}\n", row.at, row.datatype));
+            }
+        }
+        Line::Array { base, dimensions } => {
+            put(text, &format!("array\t{base}"));
+            for dimension in dimensions {
+                put(text, &format!("\t{dimension}"));
+            }
+            put(text, "\n");
+        }
+    }
+}
+
+fn put(text: &mut Vec<u8>, words: &str) {
+    text.extend(words.as_bytes());
+}
+
+fn atomic(layout: &Atomic) -> String {
+    let order = match layout.order {
+        Order::LittleEndian => "LE",
+        Order::BigEndian => "BE",
+    };
+    let pad = |pad| match pad {
+        Pad::Zero => "zero",
+        Pad::One => "one",
+        Pad::Keep => "keep",
+    };
+    format!(
+        "{}\t{order}\t{}\t{}\t{}\t{}",
+        layout.size,
+        layout.offset,
+        layout.precision,
+        pad(layout.lsb),
+        pad(layout.msb)
+    )
+}

@@ -1,0 +1,99 @@
+//! What was seen, and what must have been seen for the tests to mean
+//! something.
+
+use crate::run::{FORMS, Form};
+use std::collections::BTreeMap;
+
+#[derive(Default)]
+pub struct Tally(BTreeMap<String, u64>);
+
+/// Beside the answers, what a whole run must have met.
+const NEEDED: [&str; 37] = [
+    "case: conversion",
+    "case: conversion with many refusals",
+    "case: conversion at the limits",
+    "case: conversion of 65,536 records",
+    "case: leaf list",
+    "case: setters",
+    "case: properties",
+    "done with an exception",
+    "done of 65,536 records",
+    "done of no record",
+    "STOP past record 0",
+    "STOP past byte 0",
+    "STOP kind 1",
+    "STOP kind 2",
+    "STOP kind 3",
+    "SOURCE at line 0",
+    "DESTINATION at line 0",
+    "SOURCE past line 250",
+    "1 and 2 at once",
+    "1 and 3 at once",
+    "2 and 3 at once",
+    "3 and 4 at once",
+    "4 and 6 at once",
+    "5 and 6 at once",
+    "5 and 7 at once",
+    "6 and 7 at once",
+    "in place, growing, several records",
+    "in place, shrinking, several records",
+    "list of 4,096-byte records",
+    "setter on a broken layout",
+    "setter changed another word",
+    "property: in place equals from a copy",
+    "property: the way back",
+    "property: free bytes do not show",
+    "property: free bytes do not show under STOP",
+    "property: a changed number shows",
+    "property: data bytes do not show in a refusal",
+];
+
+impl Tally {
+    pub fn saw(&mut self, what: &str) {
+        match self.0.get_mut(what) {
+            Some(times) => *times += 1,
+            None => {
+                self.0.insert(what.to_string(), 1);
+            }
+        }
+    }
+
+    pub fn answer(&mut self, form: &str, number: u64) {
+        self.saw(&format!("answer: {form} {number}"));
+    }
+
+    pub fn print(&self) {
+        for (what, times) in &self.0 {
+            println!("{times:>9}  {what}");
+        }
+    }
+
+    /// What a whole run should have met and did not.
+    pub fn missing(&self) -> Vec<String> {
+        let mut needed: Vec<String> = NEEDED.iter().map(|what| what.to_string()).collect();
+        needed.extend(answers());
+        needed.retain(|what| !self.0.contains_key(what));
+        needed
+    }
+}
+
+/// Every answer that a form can give.
+fn answers() -> Vec<String> {
+    let mut answers = Vec::new();
+    let mut add = |form: &str, numbers: &[u64]| {
+        for number in numbers {
+            answers.push(format!("answer: {form} {number}"));
+        }
+    };
+    for form in FORMS {
+        match form {
+            Form::Copying | Form::InPlace => add(form.name(), &[0, 1, 2, 3, 4, 5, 6, 7, 8]),
+            _ => add(form.name(), &[0, 2, 3, 4, 5, 6, 7]),
+        }
+    }
+    add("leaf list", &[0, 2, 3, 7]);
+    for setter in ["size", "order", "precision", "offset", "pads", "sign"] {
+        add(setter, &[0, 9]);
+    }
+    answers
+}

@@ -1,0 +1,208 @@
+//! The four converting calls: the checks in the table's order, the answer,
+//! and every lent byte and word after the call.
+
+use crate::datatype::Datatype;
+use crate::number;
+use crate::paths::{self, Match};
+use crate::sheet;
+use std::rc::Rc;
+
+/// An answer: the number from the table with every field beside it.
+#[derive(Clone, Copy, Debug, Default, PartialEq, Eq)]
+pub struct Answer {
+    pub number: u64,
+    /// Exceptions, or the length of a list.
+    pub count: u64,
+    pub line: u64,
+    pub record: u64,
+    pub at: u64,
+    pub kind: u64,
+}
+
+impl Answer {
+    pub fn refused(number: u64) -> Answer {
+        Answer {
+            number,
+            ..Answer::default()
+        }
+    }
+
+    pub fn faulty(number: u64, line: u64) -> Answer {
+        Answer {
+            line,
+            ..Answer::refused(number)
+        }
+    }
+
+    pub fn done(count: u64) -> Answer {
+        Answer {
+            count,
+            ..Answer::default()
+        }
+    }
+}
+
+/// What a call leaves: its answer, the buffer that it may write, the table.
+#[derive(Clone, Debug, PartialEq, Eq)]
+pub struct After {
+    pub answer: Answer,
+    pub written: Vec<u8>,
+    pub table: Vec<u32>,
+}
+
+/// What all four forms are given. A plain form has no handling.
+#[derive(Clone, Copy, Debug)]
+pub struct Call<'a> {
+    pub source_sheet: &'a [u8],
+    pub destination_sheet: &'a [u8],
+    pub count: u64,
+    pub handling: Option<u32>,
+    pub table: &'a [u32],
+}
+
+/// A matched leaf that raised an exception.
+struct Raised {
+    record: u64,
+    at: u64,
+    kind: u64,
+}
+
+/// The copying form: the destination's own bytes are the background.
+pub fn copying(call: Call, source: &[u8], destination: &[u8]) -> After {
+    let mut written = destination.to_vec();
+    let result = checked(&call).and_then(|(from, to)| {
+        let (source_len, destination_len) = lengths(&call, &from, &to);
+        if (source.len() as u128) < source_len || (destination.len() as u128) < destination_len {
+            return Err(Answer::refused(7));
+        }
+        let background = &destination[..destination_len as usize];
+        let (converted, count) = convert(&call, &from, &to, source, background)?;
+        written[..converted.len()].copy_from_slice(&converted);
+        Ok(Answer::done(count))
+    });
+    after(call, result, written)
+}
+
+/// The in-place form: one buffer and a separate background.
+pub fn in_place(call: Call, buffer: &[u8], background: &[u8]) -> After {
+    let mut written = buffer.to_vec();
+    let result = checked(&call).and_then(|(from, to)| {
+        let (source_len, destination_len) = lengths(&call, &from, &to);
+        let longer = source_len.max(destination_len);
+        if (buffer.len() as u128) < longer || (background.len() as u128) < destination_len {
+            return Err(Answer::refused(7));
+        }
+        let background = &background[..destination_len as usize];
+        let (converted, count) = convert(&call, &from, &to, buffer, background)?;
+        written[..converted.len()].copy_from_slice(&converted);
+        // "Bytes nD to nS − 1 (if S is larger) are zero."
+        for at in destination_len..source_len {
+            written[at as usize] = 0;
+        }
+        Ok(Answer::done(count))
+    });
+    after(call, result, written)
+}
+
+/// "Its first 8,192 words are zero after every call that passes check 2."
+pub fn table_after(answer: &Answer, table: &[u32]) -> Vec<u32> {
+    let mut words = table.to_vec();
+    if answer.number != 1 && answer.number != 2 {
+        words[..8192].fill(0);
+    }
+    words
+}
+
+fn after(call: Call, result: Result<Answer, Answer>, written: Vec<u8>) -> After {
+    let answer = result.unwrap_or_else(|refusal| refusal);
+    After {
+        answer,
+        written,
+        table: table_after(&answer, call.table),
+    }
+}
+
+/// Checks 1 to 6.
+fn checked(call: &Call) -> Result<(Rc<Datatype>, Rc<Datatype>), Answer> {
+    if let Some(handling) = call.handling
+        && handling != 0
+        && handling != 1
+    {
+        return Err(Answer::refused(1));
+    }
+    if call.table.len() < 8192 {
+        return Err(Answer::refused(2));
+    }
+    let from = sheet::read(call.source_sheet).map_err(|line| Answer::faulty(3, line))?;
+    let to = sheet::read(call.destination_sheet).map_err(|line| Answer::faulty(4, line))?;
+    if !paths::has_path(&from, &to) {
+        return Err(Answer::refused(5));
+    }
+    if call.count > 65_536 {
+        return Err(Answer::refused(6));
+    }
+    Ok((from, to))
+}
+
+/// nS and nD.
+fn lengths(call: &Call, from: &Datatype, to: &Datatype) -> (u128, u128) {
+    let count = u128::from(call.count);
+    (
+        count * u128::from(from.size()),
+        count * u128::from(to.size()),
+    )
+}
+
+/// The converted records and the exception count, or the answer STOP.
+fn convert(
+    call: &Call,
+    from: &Datatype,
+    to: &Datatype,
+    source: &[u8],
+    background: &[u8],
+) -> Result<(Vec<u8>, u64), Answer> {
+    let matches = paths::matches(from, to);
+    let mut converted = background.to_vec();
+    let mut raised = Vec::new();
+    for record in 0..call.count {
+        let source = part(source, record, from.size());
+        let start = (record * to.size()) as usize;
+        let destination = &mut converted[start..start + to.size() as usize];
+        for pair in &matches {
+            if let Some(kind) = convert_leaf(pair, source, destination) {
+                let at = pair.to.at;
+                raised.push(Raised { record, at, kind });
+            }
+        }
+    }
+    let first = raised
+        .iter()
+        .min_by_key(|raised| (raised.record, raised.at));
+    match (call.handling, first) {
+        (Some(1), Some(first)) => Err(Answer {
+            record: first.record,
+            at: first.at,
+            kind: first.kind,
+            ..Answer::refused(8)
+        }),
+        _ => Ok((converted, raised.len() as u64)),
+    }
+}
+
+/// Record number `record` of a buffer of records of one size.
+pub fn part(buffer: &[u8], record: u64, size: u64) -> &[u8] {
+    let start = (record * size) as usize;
+    &buffer[start..start + size as usize]
+}
+
+/// Writes one matched leaf over its background; gives the exception kind.
+fn convert_leaf(pair: &Match, source: &[u8], destination: &mut [u8]) -> Option<u64> {
+    let found = number::read(
+        number::layout(pair.from.datatype),
+        &source[pair.from.at as usize..],
+    );
+    let (result, kind) = number::convert(pair.from.datatype, pair.to.datatype, found);
+    let layout = number::layout(pair.to.datatype);
+    number::write(layout, result, &mut destination[pair.to.at as usize..]);
+    kind
+}
