@@ -48,6 +48,14 @@ carries false true p q raw h some small =
 carries true false p q raw h some small = absurd (false≢true h)
 carries true true p q raw h some small = (widen-signed p q raw some (leb-true p q h) small, widen-lt p q raw some (leb-true p q h) small)
 
+-- ---- what is written
+
+-- a layout without pads takes a number with no look at the background
+pub stored-as : (m : Layout) → m .offset .0 ≡ 0 → m .precision ≡ 8 * m .size .0 → (b raw : ℕ) (dst : List ℕ) → b + m .size .0 ≤ length dst → Bytes dst
+    → paste dst b (contained (m .order) (m .size .0) raw) (m .size .0) ≡ stored m b raw dst
+stored-as m lowest whole b raw dst room hb =
+    ap (λ (x : ℕ). paste dst b (contained (m .order) (m .size .0) x) (m .size .0)) (sym (whole-filled m _ raw lowest whole (place-bound (m .order) dst b (m .size .0) room hb)))
+
 -- ---- what is told of a pair
 
 -- three tests that all passed
@@ -75,10 +83,10 @@ module _ (l m : Layout) (is : easy l m ≡ true) where
       (c .0, subst (λ (n : ℕ). carried (l .signed) (l .precision) (m .precision) raw < 2 ^ n) whole (c .1))
 
   -- it is written with no look at the background
-  pub stored-whole : (b raw : ℕ) (dst : List ℕ) → b + m .size .0 ≤ length dst → Bytes dst
+  stored-whole : (b raw : ℕ) (dst : List ℕ) → b + m .size .0 ≤ length dst → Bytes dst
       → paste dst b (contained (m .order) (m .size .0) raw) (m .size .0) ≡ stored m b raw dst
   stored-whole b raw dst room hb =
-      ap (λ (x : ℕ). paste dst b (contained (m .order) (m .size .0) x) (m .size .0)) (sym (whole-filled m _ raw lowest whole (place-bound (m .order) dst b (m .size .0) room hb)))
+      stored-as m lowest whole b raw dst room hb
 
 -- ---- what is read
 

@@ -31,7 +31,7 @@ pub fn at(w: &[u32], k: usize) -> usize
 }
 
 // Some bits of eight bytes, by the word for the order.
-fn raw_by(src: &[u8], a: usize, order: usize, shift: u32, precision: u32) -> u64
+pub fn raw_by(src: &[u8], a: usize, order: usize, shift: u32, precision: u32) -> u64
     requires { ⌜ (a + 8 ≤ length (now src)) × (1 ≤ order) × (shift < 64) × (precision ≤ 64) ⌝ }
     ensures { λ r. ⌜ (r ≡ field shift precision (container (orderOf (order - 1)) (take 8 (drop a (now (src .entry)))))) × (r < 2 ^ precision) ⌝ }
 {
@@ -84,7 +84,7 @@ fn is_easy(l: Layout, m: Layout) -> bool
 }
 
 // How far a number lies above bit 0, where eight bytes are read from its first byte on.
-fn shift_of(l: Layout) -> u32
+pub fn shift_of(l: Layout) -> u32
     requires { ⌜ Valid l ⌝ }
     ensures { λ r. ⌜ r ≡ shiftOf (l .order) (l .size .0) (l .offset .0) ⌝ }
 {
@@ -103,10 +103,21 @@ fn carry_of(signed: bool, p: u32, q: u32) -> u64
     if signed { ones(q) - ones(p) } else { 0 }
 }
 
-// Writes eight words, the last of which is 0, from word k of w on.
-fn put_eight(w: &mut [u32], k: usize, a: u32, b: u32, c: u32, d: u32, e: u32, f: u32, g: u32)
+// Writes eight words from word k of w on.
+pub fn put_eight(
+    w: &mut [u32],
+    k: usize,
+    a: u32,
+    b: u32,
+    c: u32,
+    d: u32,
+    e: u32,
+    f: u32,
+    g: u32,
+    h: u32,
+)
     requires { ⌜ k + 8 ≤ length (now w) ⌝ }
-    ensures { λ _. ⌜ now (w .exit) ≡ withWords (now (w .entry)) k (a ∷ b ∷ c ∷ d ∷ e ∷ f ∷ g ∷ 0 ∷ []) ⌝ }
+    ensures { λ _. ⌜ now (w .exit) ≡ withWords (now (w .entry)) k (a ∷ b ∷ c ∷ d ∷ e ∷ f ∷ g ∷ h ∷ []) ⌝ }
 {
     w[k] = a;
     w[k + 1] = b;
@@ -115,7 +126,7 @@ fn put_eight(w: &mut [u32], k: usize, a: u32, b: u32, c: u32, d: u32, e: u32, f:
     w[k + 4] = e;
     w[k + 5] = f;
     w[k + 6] = g;
-    w[k + 7] = 0;
+    w[k + 7] = h;
 }
 
 // The words of a pair that is easy.
@@ -139,6 +150,7 @@ fn put_easy(w: &mut [u32], k: usize, l: Layout, m: Layout)
         high,
         size,
         order_code(to),
+        0,
     );
 }
 
@@ -164,5 +176,5 @@ pub fn put_words(w: &mut [u32], k: usize, l: Layout, m: Layout)
         put_easy(w, k, l, m);
         return;
     }
-    put_eight(w, k, 0, 0, 0, 0, 0, 0, 0);
+    put_eight(w, k, 0, 0, 0, 0, 0, 0, 0, 0);
 }

@@ -33,7 +33,7 @@ use Rattle.table.specs.Words.{Reads}
 use Rattle.table.specs.Rows.{rowNamed, rowNumbered, valueFound, nameFound}
 use Rattle.table.proofs.Lookups.{symbol-named, symbol-numbered}
 use Rattle.records.specs.Leaf.{numberIn, symbols, untranslated, converted}
-use Rattle.records.specs.PlanWords.{leafOfType, RowsInside, rowCode, Numbers, Pair, pairBecomes}
+use Rattle.records.specs.PlanWords.{leafOfType, RowsWithin, rowCode, Numbers, Pair, pairBecomes}
 use Rattle.records.specs.LeafSteps.{symbolRows, allOnes, codeBits, rowOf, foundBits, EnumReady}
 use Rattle.records.proofs.OneLeaf.{converted-lt, listed-in-range}
 
@@ -127,7 +127,7 @@ numbered-below w z first (suc n) j e = go (numbered-below w z first n j) (sameNu
     go later true h = let i : first + n ≡ j = cc in omega arith
     go later false h = omega (arith, later h)
 
-pub row-below : (w : List ℕ) (z : ℤ) (k : ℕ) {first rows j : ℕ} {f : Found} → RowsInside w k → Reads (firstWord w k) first → (rows ≡ symbolRows w k) × (rows ≤ rowsWord w k)
+pub row-below : (w : List ℕ) (z : ℤ) (k : ℕ) {first rows j : ℕ} {f : Found} → RowsWithin w k → Reads (firstWord w k) first → (rows ≡ symbolRows w k) × (rows ≤ rowsWord w k)
     → f ≡ rowNumbered w z first rows → f ≡ At j → j < 256
 row-below w z k {first} {rows} {j} inside rf rr e q = omega (arith, numbered-below w z first rows j (sym e ∙ q), rf .is)
 
@@ -278,7 +278,7 @@ source-fits src a s d ws wd to h e = rw e (leaf-valid ws (h .0 .sourceText) s (h
 pub destination-valid : (s d : ℕ) (ws wd to : List ℕ) {l : Layout} → Pair s d ws wd to → l ≡ layoutAt wd d → Valid l
 destination-valid s d ws wd to p e = rw e (leaf-valid wd (p .destinationText) d (p .destination))
 
-pub enum-fits : (n a s d : ℕ) (ws wd to : List ℕ) (l : Layout) (q : ℕ) → EnumReady n a s d ws wd to l q → (q ≤ 64) × (d < 64) × RowsInside ws s
+pub enum-fits : (n a s d : ℕ) (ws wd to : List ℕ) (l : Layout) (q : ℕ) → EnumReady n a s d ws wd to l q → (q ≤ 64) × (d < 64) × RowsWithin ws s
 enum-fits n a s d ws wd to l q r =
     (rw (r .precision) (leaf-valid wd (r .pair .destinationText) d (r .pair .destination) .most), class-inside wd d (r .class), r .pair .sourceRows)
 

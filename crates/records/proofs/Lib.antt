@@ -8,4 +8,5 @@ pub mod Plans
 pub mod LeafSteps
 pub mod Entries
 pub mod Translations
+pub mod EnumWords
 pub mod EasyLeaves

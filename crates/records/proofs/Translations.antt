@@ -21,7 +21,7 @@ use Rattle.table.specs.declared.Found.the-variants.{At}
 use Rattle.table.specs.Table.{rowWord, classWord, firstWord, rowsWord, layoutAt, bytesAt, nameAt}
 use Rattle.table.specs.Words.{Reads}
 use Rattle.table.specs.Rows.{rowNamed, rowNumbered}
-use Rattle.records.specs.PlanWords.{RowsInside, rowCode, Translates, Numbers}
+use Rattle.records.specs.PlanWords.{RowsWithin, rowCode, Translates, Numbers}
 use Rattle.records.specs.PlanEntries.{Steps}
 use Rattle.records.proofs.LeafSteps.{numbered-below}
 
@@ -71,7 +71,7 @@ module _ (w : List ℕ) (P : ℕ → ℕ → Type 0) (at : ℕ → ℕ) (once : 
 
 -- word k of the translations is right
 abbrev pub Named : List ℕ → List ℕ → List ℕ → List ℕ → ℕ → ℕ → Type 0
-Named ws ts wd td k v = RowsInside wd (k / 256) → v ≡ rowCode (rowNamed wd td (nameAt ws ts (k % 256)) (firstWord wd (k / 256)) (rowsWord wd (k / 256)))
+Named ws ts wd td k v = RowsWithin wd (k / 256) → v ≡ rowCode (rowNamed wd td (nameAt ws ts (k % 256)) (firstWord wd (k / 256)) (rowsWord wd (k / 256)))
 
 abbrev pub Word : List ℕ → List ℕ → List ℕ → List ℕ → ℕ → ℕ → Type 0
 Word ws ts wd td k v = classWord wd (k / 256) ≡ 2 → Named ws ts wd td k v
@@ -86,7 +86,7 @@ all-words to ws ts wd td h d j hd hj =
 abbrev pub Numbered : List ℕ → ℕ → ℕ → Type 0
 Numbered ws k v =
     let l = layoutAt ws (k / 256) in
-    RowsInside ws (k / 256) → 1 ≤ l .precision → l .precision ≤ 8 → k % 256 < 2 ^ l .precision
+    RowsWithin ws (k / 256) → 1 ≤ l .precision → l .precision ≤ 8 → k % 256 < 2 ^ l .precision
     → v ≡ rowCode (rowNumbered ws (valued (l .signed) (l .precision) (k % 256)) (firstWord ws (k / 256)) (rowsWord ws (k / 256)))
 
 abbrev pub NumberWord : List ℕ → ℕ → ℕ → Type 0

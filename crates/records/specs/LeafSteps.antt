@@ -4,14 +4,14 @@ use mathlib.Core.Bool.{cond}
 use mathlib.Core.List.{List}
 use Prim.Native.Nat.{ℕ, zero, suc, _+_, _*_, _-_, _^_, _≤_}
 use lib.Dec.{eqb}
-use lib.ListN.{getD}
+use lib.ListN.{getD, length}
 use Rattle.layout.specs.declared.Layout.{Layout}
 use Rattle.number.specs.declared.Fitted.{Fitted}
 use Rattle.number.specs.Number.{bitsOf}
 use Rattle.table.specs.declared.Found.{Found}
 use Rattle.table.specs.declared.Found.the-variants.{At, Missing}
 use Rattle.table.specs.Table.{classWord, rowsWord, layoutAt, valueAt}
-use Rattle.records.specs.PlanWords.{Pair}
+use Rattle.records.specs.PlanWords.{EnumAt, Pair}
 
 -- how many symbols type k has: none where it is no enum
 unfoldable pub symbolRows : List ℕ → ℕ → ℕ
@@ -42,3 +42,12 @@ pub record EnumReady (n a s d : ℕ) (ws wd to : List ℕ) (l : Layout) (p : ℕ
   pub class : classWord wd d ≡ 2
   pub layout : l ≡ layoutAt ws s
   pub precision : p ≡ layoutAt wd d .precision
+
+-- an enum at byte a of n bytes on its way to byte b of m bytes, by the words from word k of `to` on
+pub record EnumHere (n m b a s d : ℕ) (ws wd to : List ℕ) (k : ℕ) : Type 0 where
+  pub pair : Pair s d ws wd to
+  pub read : a + 8 ≤ n
+  pub write : b + layoutAt wd d .size .0 ≤ m
+  pub words : k + 8 ≤ length to
+  pub class : classWord wd d ≡ 2
+  pub at : EnumAt (classWord ws s) (layoutAt ws s) (layoutAt wd d) to k

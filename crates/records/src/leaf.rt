@@ -7,10 +7,12 @@ ghost use Rattle.number.specs.Place.{stored};
 ghost use Rattle.number.specs.Parts.{signedBy};
 ghost use Rattle.table.specs.Table.{firstWord, rowsWord, layoutAt, valueAt};
 ghost use Rattle.table.specs.Rows.{rowNumbered};
-ghost use Rattle.records.specs.PlanWords.{RowsInside, Pair, pairBecomes};
-ghost use Rattle.records.specs.LeafSteps.{symbolRows, allOnes, codeBits, rowOf, foundBits, EnumReady};
+ghost use Rattle.records.specs.PlanWords.{RowsWithin, Pair, pairBecomes};
+ghost use Rattle.records.specs.LeafSteps.{symbolRows, allOnes, codeBits, rowOf, foundBits, EnumReady, EnumHere};
 use bits::ByteAt;
 use bits::shift::ones;
+use easy::at;
+use easy::raw_by;
 use layout::Layout;
 use number::Fitted;
 use number::Parts;
@@ -20,6 +22,7 @@ use number::place::store;
 use number::sign::split;
 use table::Found;
 use table::codes::flag_of;
+use table::codes::order_of;
 use table::read::layout_at;
 use table::read::row_word;
 use table::read::type_word;
@@ -93,7 +96,7 @@ fn enum_bits(
     to: &[u32],
     precision: u32,
 ) -> Fitted
-    requires { ⌜ (precision ≤ 64) × (d < 64) × RowsInside (now ws) s ⌝ }
+    requires { ⌜ (precision ≤ 64) × (d < 64) × RowsWithin (now ws) s ⌝ }
     ensures { λ r. ⌜ r ≡ foundBits (now (to .entry)) (now (wd .entry)) d precision (rowNumbered (now (ws .entry)) (signedBy (z .negative) (z .distance)) (firstWord (now (ws .entry)) s) (symbolRows (now (ws .entry)) s)) ⌝ }
 {
     let first = type_word(ws, s, 9);
@@ -140,13 +143,21 @@ fn enum_leaf(
     enum_bits(z, s, d, ws, wd, to, precision)
 }
 
-// What the number in the leaf of type s at byte a of src becomes in a leaf of type d.
-fn leaf_bits(src: &[u8], a: usize, s: usize, d: usize, ws: &[u32], wd: &[u32], to: &[u32]) -> Fitted
-    requires { ⌜ Pair s d (now ws) (now wd) (now to) × (a + layoutAt (now ws) s .size .0 ≤ length (now src)) ⌝ }
+// What the number in the leaf of type s and layout l at byte a of src becomes in a leaf of type d and layout m.
+fn leaf_bits(
+    src: &[u8],
+    a: usize,
+    s: usize,
+    d: usize,
+    ws: &[u32],
+    wd: &[u32],
+    to: &[u32],
+    l: Layout,
+    m: Layout,
+) -> Fitted
+    requires { ⌜ Pair s d (now ws) (now wd) (now to) × (a + layoutAt (now ws) s .size .0 ≤ length (now src)) × (l ≡ layoutAt (now ws) s) × (m ≡ layoutAt (now wd) d) ⌝ }
     ensures { λ r. ⌜ ((p : Pair s d (now (ws .entry)) (now (wd .entry)) (now (to .entry))) → r ≡ pairBecomes p a (now (src .entry))) × (r .raw < 2 ^ layoutAt (now (wd .entry)) d .precision) ⌝ }
 {
-    let l = layout_at(ws, s);
-    let m = layout_at(wd, d);
     if type_word(wd, d, 0) == 2 {
         return enum_leaf(src, a, s, d, ws, wd, to, l, m.precision);
     }
@@ -168,8 +179,36 @@ pub fn convert_leaf(
     requires { ⌜ Pair s d (now ws) (now wd) (now to) × (a + layoutAt (now ws) s .size .0 ≤ length (now src)) × (b + layoutAt (now wd) d .size .0 ≤ length (now dst)) ⌝ }
     ensures { λ r. ⌜ ((p : Pair s d (now (ws .entry)) (now (wd .entry)) (now (to .entry))) → (r ≡ pairBecomes p a (now (src .entry)) .kind) × (now (dst .exit) ≡ stored (layoutAt (now (wd .entry)) d) b (pairBecomes p a (now (src .entry)) .raw) (now (dst .entry)))) ⌝ }
 {
-    let f = leaf_bits(src, a, s, d, ws, wd, to);
-    store(dst, ByteAt(b), layout_at(wd, d), f.raw);
+    let m = layout_at(wd, d);
+    let f = leaf_bits(src, a, s, d, ws, wd, to, layout_at(ws, s), m);
+    store(dst, ByteAt(b), m, f.raw);
+    f.kind
+}
+
+// The same for an enum of at most 8 bits, by the words from word k of `to` on.
+pub fn convert_enum(
+    src: &[u8],
+    dst: &mut [u8],
+    b: usize,
+    a: usize,
+    s: usize,
+    d: usize,
+    ws: &[u32],
+    wd: &[u32],
+    to: &[u32],
+    k: usize,
+) -> u32
+    requires { ⌜ EnumHere (length (now src)) (length (now dst)) b a s d (now ws) (now wd) (now to) k ⌝ }
+    ensures { λ r. ⌜ ((p : Pair s d (now (ws .entry)) (now (wd .entry)) (now (to .entry))) → (r ≡ pairBecomes p a (now (src .entry)) .kind) × (now (dst .exit) ≡ stored (layoutAt (now (wd .entry)) d) b (pairBecomes p a (now (src .entry)) .raw) (now (dst .entry)))) ⌝ }
+{
+    let precision = at(to, k + 2) as u32;
+    let size = at(to, k + 5);
+    let order = order_of(at(to, k + 6));
+    let into = at(to, k + 7) as u32;
+    let bits = raw_by(src, a, at(to, k) - 2, at(to, k + 1) as u32, precision) as usize;
+    let row = word(to, 16384 + (s * 256 + bits));
+    let f = row_bits(row, d, wd, to, into);
+    bits::store::store(dst, b, size, order, f.raw);
     f.kind
 }
 
@@ -186,6 +225,7 @@ pub fn leaf_kind(
     requires { ⌜ Pair s d (now ws) (now wd) (now to) × (a + layoutAt (now ws) s .size .0 ≤ length (now src)) ⌝ }
     ensures { λ r. ⌜ ((p : Pair s d (now (ws .entry)) (now (wd .entry)) (now (to .entry))) → r ≡ pairBecomes p a (now (src .entry)) .kind) ⌝ }
 {
-    let f = leaf_bits(src, a, s, d, ws, wd, to);
+    let m = layout_at(wd, d);
+    let f = leaf_bits(src, a, s, d, ws, wd, to, layout_at(ws, s), m);
     f.kind
 }

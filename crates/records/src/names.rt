@@ -7,7 +7,7 @@ ghost use lib.ListN.{length};
 ghost use Rattle.table.specs.Table.{classWord, firstWord, rowsWord, layoutAt, nameAt};
 ghost use Rattle.table.specs.Rows.{rowNamed, rowNumbered};
 ghost use Rattle.number.specs.Number.{valued};
-ghost use Rattle.records.specs.PlanWords.{RowsInside, rowCode, Translates};
+ghost use Rattle.records.specs.PlanWords.{RowsWithin, rowCode, Translates};
 ghost use Rattle.records.specs.PlanEntries.{Steps, NumbersPut};
 use bits::shift::pow2;
 use number::sign::number_of;
@@ -21,7 +21,7 @@ use table::rows::row_numbered;
 
 // The row of the destination enum d that has the name of source row j, in one word.
 fn translation(ws: &[u32], ts: &[u8], wd: &[u32], td: &[u8], d: usize, j: usize) -> u32
-    ensures { λ r. ⌜ (classWord (now (wd .entry)) d ≡ 2 → RowsInside (now (wd .entry)) d → r ≡ rowCode (rowNamed (now (wd .entry)) (now (td .entry)) (nameAt (now (ws .entry)) (now (ts .entry)) j) (firstWord (now (wd .entry)) d) (rowsWord (now (wd .entry)) d))) ⌝ }
+    ensures { λ r. ⌜ (classWord (now (wd .entry)) d ≡ 2 → RowsWithin (now (wd .entry)) d → r ≡ rowCode (rowNamed (now (wd .entry)) (now (td .entry)) (nameAt (now (ws .entry)) (now (ts .entry)) j) (firstWord (now (wd .entry)) d) (rowsWord (now (wd .entry)) d))) ⌝ }
 {
     if type_word(wd, d, 0) != 2 {
         return 0;
@@ -63,7 +63,7 @@ pub fn translations(ws: &[u32], ts: &[u8], wd: &[u32], td: &[u8], to: &mut [u32]
 
 // The row of the source enum s whose number has these bits, in one word.
 fn number_row(ws: &[u32], s: usize, bits: u64) -> u32
-    ensures { λ r. ⌜ (RowsInside (now (ws .entry)) s → 1 ≤ layoutAt (now (ws .entry)) s .precision → layoutAt (now (ws .entry)) s .precision ≤ 8 → bits < 2 ^ layoutAt (now (ws .entry)) s .precision → r ≡ rowCode (rowNumbered (now (ws .entry)) (valued (layoutAt (now (ws .entry)) s .signed) (layoutAt (now (ws .entry)) s .precision) bits) (firstWord (now (ws .entry)) s) (rowsWord (now (ws .entry)) s))) ⌝ }
+    ensures { λ r. ⌜ (RowsWithin (now (ws .entry)) s → 1 ≤ layoutAt (now (ws .entry)) s .precision → layoutAt (now (ws .entry)) s .precision ≤ 8 → bits < 2 ^ layoutAt (now (ws .entry)) s .precision → r ≡ rowCode (rowNumbered (now (ws .entry)) (valued (layoutAt (now (ws .entry)) s .signed) (layoutAt (now (ws .entry)) s .precision) bits) (firstWord (now (ws .entry)) s) (rowsWord (now (ws .entry)) s))) ⌝ }
 {
     let l = layout_at(ws, s);
     let p = l.precision;

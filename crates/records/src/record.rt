@@ -10,13 +10,14 @@ ghost use Rattle.records.specs.PlanWords.{Pair, pairBecomes, Ready, entr
 ghost use Rattle.records.specs.PlanEntries.{EntryReady, raisingOf};
 use crate::PlanEntry;
 use crate::Raising;
+use crate::leaf::convert_enum;
 use crate::leaf::convert_leaf;
 use crate::leaf::leaf_kind;
 use crate::words::entry;
 use easy::at;
 use easy::convert_easy;
 
-// Converts the leaf of entry i, which is e: an easy one by its words where eight bytes are there to be read. The kind of exception is returned.
+// Converts the leaf of entry i, which is e: an easy one and a small enum by its words where eight bytes are there to be read. The kind of exception is returned.
 fn write_entry(
     src: &[u8],
     dst: &mut [u8],
@@ -30,10 +31,25 @@ fn write_entry(
     ensures { λ r. ⌜ ((p : Pair (e .source) (e .destination) (now (ws .entry)) (now (wd .entry)) (now (to .entry))) → (r ≡ pairBecomes p (e .from) (now (src .entry)) .kind) × (now (dst .exit) ≡ stored (layoutAt (now (wd .entry)) (e .destination)) (e .to) (pairBecomes p (e .from) (now (src .entry)) .raw) (now (dst .entry)))) ⌝ }
 {
     let k = 32768 + 8 * i;
-    if at(to, k) != 0 {
+    let first = at(to, k);
+    if first != 0 {
         if 8 <= src.len() - e.from {
-            convert_easy(src, dst, e.to, e.from, to, k);
-            return 0;
+            if first < 3 {
+                convert_easy(src, dst, e.to, e.from, to, k);
+                return 0;
+            }
+            return convert_enum(
+                src,
+                dst,
+                e.to,
+                e.from,
+                e.source,
+                e.destination,
+                ws,
+                wd,
+                to,
+                k,
+            );
         }
     }
     convert_leaf(src, dst, e.to, e.from, e.source, e.destination, ws, wd, to)
@@ -44,8 +60,11 @@ fn entry_kind(src: &[u8], e: PlanEntry, i: usize, ws: &[u32], wd: &[u32], to: &[
     requires { ⌜ ((d : ℕ) × EntryReady (length (now src)) d e i (now ws) (now wd) (now to)) ⌝ }
     ensures { λ r. ⌜ ((p : Pair (e .source) (e .destination) (now (ws .entry)) (now (wd .entry)) (now (to .entry))) → r ≡ pairBecomes p (e .from) (now (src .entry)) .kind) ⌝ }
 {
-    if at(to, 32768 + 8 * i) != 0 {
-        return 0;
+    let first = at(to, 32768 + 8 * i);
+    if first != 0 {
+        if first < 3 {
+            return 0;
+        }
     }
     leaf_kind(src, e.from, e.source, e.destination, ws, wd, to)
 }
