@@ -2,7 +2,7 @@
 use mathlib.Core.Path.{_≡_, refl, sym, ap, subst, _∙_}
 use mathlib.Core.Bool.{Bool, true, false, _&&_, false≢true}
 use mathlib.Core.List.{List}
-use Prim.Native.Nat.{ℕ, suc, _+_, _-_, _*_, _/_, _^_, _≤_, _<_}
+use Prim.Native.Nat.{ℕ, _+_, _-_, _*_, _/_, _^_, _≤_, _<_}
 use native.Mathlib.Nat.{lt-of-lt-of-le}
 use native.Mathlib.Omega.{arith}
 use lib.Dec.{eqb, leb, ltb}
@@ -26,7 +26,7 @@ use Rattle.table.specs.Table.{orderOf}
 use Rattle.table.specs.Words.{Reads}
 use Rattle.table.specs.Records.{orderCode}
 use Rattle.easy.specs.Easy.{inside, easy, shiftOf, carryOf}
-use Rattle.easy.specs.Words.{EasyAt}
+use Rattle.easy.specs.Words.{EasyBy, EasyAt}
 
 -- ---- the number
 
@@ -107,34 +107,29 @@ pub order-back : (o : Order) → orderOf (orderCode o) ≡ o
 order-back LE = refl
 order-back BE = refl
 
--- ---- a leaf by its words
+-- ---- a leaf by its numbers
 
-pub words-fit : (l m : Layout) (w : List ℕ) (k : ℕ) → EasyAt l m w k → {o s p : ℕ} → Reads (getD w k 0) o → Reads (getD w (k + 1) 0) s → Reads (getD w (k + 2) 0) p
-    → (1 ≤ o) × (s < 64) × (p ≤ 64)
-words-fit l m w k e ro rs rp =
-    rw (ro .is, rs .is, rp .is, e .order, e .shift, e .precision)
-    (omega arith, shift-small (l .order) (l .size .0) (l .offset .0) (l .precision) (e .valid .sized) (e .valid .some) (e .valid .inside), e .valid .most)
+pub numbers-fit : (l m : Layout) {o s p c n r : ℕ} → EasyBy l m o s p c n r → (1 ≤ o) × (s < 64) × (1 ≤ p) × (p ≤ 64)
+numbers-fit l m e =
+    rw (e .order, e .shift, e .precision)
+    (omega arith, shift-small (l .order) (l .size .0) (l .offset .0) (l .precision) (e .valid .sized) (e .valid .some) (e .valid .inside), e .valid .some, e .valid .most)
 
-module _ (l m : Layout) (w : List ℕ) (k : ℕ) (e : EasyAt l m w k) (src : List ℕ) (a : ℕ) (room : a + 8 ≤ length src) (hb : Bytes src)
-    {o s p raw : ℕ} (ro : Reads (getD w k 0) o) (rs : Reads (getD w (k + 1) 0) s) (rp : Reads (getD w (k + 2) 0) p)
-    (is : raw ≡ field s p (container (orderOf (o - 1)) (take 8 (drop a src)))) where
+module _ (l m : Layout) {o s p c n r : ℕ} (e : EasyBy l m o s p c n r) (src : List ℕ) (a : ℕ) (room : a + 8 ≤ length src) (hb : Bytes src)
+    {raw : ℕ} (is : raw ≡ field s p (container (orderOf (o - 1)) (take 8 (drop a src)))) where
   v : Valid l
   v = e .valid
 
   pub raw-is : raw ≡ rawAt l a src
   raw-is =
-      is ∙ rw (ro .is, rs .is, rp .is, e .order, e .shift, e .precision)
+      is ∙ rw (e .order, e .shift, e .precision)
       (window-is (l .order) (l .size .0) (l .offset .0) (l .precision) a src room (v .sized) (v .inside) hb)
 
-  module _ (small : raw < 2 ^ p) {low high : ℕ} (rl : Reads (getD w (k + 3) 0) low) (rh : Reads (getD w (k + 4) 0) high) where
-    abbrev c : ℕ
-    c = low + high * 4294967296
-
+  module _ (small : raw < 2 ^ p) where
     wide-is : raw + c * (raw / 2 ^ (p - 1)) ≡ carried (l .signed) (l .precision) (m .precision) raw
-    wide-is = rw (rl .is, rh .is, e .carry, rp .is, e .precision)
+    wide-is = rw (e .carry, e .precision)
 
     raw-small : raw < 2 ^ l .precision
-    raw-small = rw (← (e .precision), ← (rp .is)) small
+    raw-small = rw (← (e .precision)) small
 
     pub wide-small : raw + c * (raw / 2 ^ (p - 1)) < 2 ^ (8 * m .size .0)
     wide-small = rw wide-is (number l m (e .is) v raw raw-small .1)
@@ -142,11 +137,17 @@ module _ (l m : Layout) (w : List ℕ) (k : ℕ) (e : EasyAt l m w k) (src : Lis
     pub wide-fits : raw + c * (raw / 2 ^ (p - 1)) < 18446744073709551616
     wide-fits = lt-of-lt-of-le wide-small (pow-mono {j = 64} (omega (arith, e .most)))
 
-    pub leaf-is : (b : ℕ) {size order : ℕ} (dst : List ℕ) {out : List ℕ} → b + m .size .0 ≤ length dst → Bytes dst → Reads (getD w (k + 5) 0) size → Reads (getD w (k + 6) 0) order
-        → out ≡ paste dst b (contained (orderOf order) size (raw + c * (raw / 2 ^ (p - 1)))) size
+    pub leaf-is : (b : ℕ) (dst : List ℕ) {out : List ℕ} → b + m .size .0 ≤ length dst → Bytes dst
+        → out ≡ paste dst b (contained (orderOf r) n (raw + c * (raw / 2 ^ (p - 1)))) n
         → out ≡ stored m b (fitted m (numberAt l a src) .raw) dst
-    leaf-is b dst fits hd rz rr h =
+    leaf-is b dst fits hd h =
         let wide : ℕ = carried (l .signed) (l .precision) (m .precision) raw in
         let f : wide ≡ fitted m (numberAt l a src) .raw = ap (λ (x : Fitted). x .raw) (number l m (e .is) v raw raw-small .0) ∙ ap (λ (x : ℕ). fitted m (valued (l .signed) (l .precision) x) .raw) raw-is in
-        h ∙ rw (wide-is, rz .is, rr .is, e .size, e .destinationOrder, order-back (m .order)) (stored-whole l m (e .is) b wide dst fits hd)
+        h ∙ rw (wide-is, e .size, e .destinationOrder, order-back (m .order)) (stored-whole l m (e .is) b wide dst fits hd)
         ∙ ap (λ (x : ℕ). stored m b x dst) f
+
+-- the numbers that were read where the words stand
+pub numbers-read : (l m : Layout) (w : List ℕ) (k : ℕ) → EasyAt l m w k → {o s p low high n r : ℕ}
+    → Reads (getD w k 0) o → Reads (getD w (k + 1) 0) s → Reads (getD w (k + 2) 0) p → Reads (getD w (k + 3) 0) low → Reads (getD w (k + 4) 0) high
+    → Reads (getD w (k + 5) 0) n → Reads (getD w (k + 6) 0) r → EasyBy l m o s p (low + high * 4294967296) n r
+numbers-read l m w k e ro rs rp rl rh rn rr = rw (ro .is, rs .is, rp .is, rl .is, rh .is, rn .is, rr .is) e

@@ -1,2 +1,4 @@
 pub mod Easy
 pub mod Words
+pub mod Lent
+pub mod EachTurns

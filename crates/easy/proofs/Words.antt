@@ -1,10 +1,8 @@
 -- Words written one after the other: what stands where afterwards. Assumes nothing.
-use mathlib.Core.Path.{_≡_, refl, sym, ap, _∙_}
-use mathlib.Core.Logic.{⊎-elim}
+use mathlib.Core.Path.{_≡_, refl, _∙_}
 use mathlib.Core.Bool.{Bool, true, false, cond, _&&_, false≢true}
 use mathlib.Core.List.{List, [], _∷_}
-use Prim.Native.Nat.{ℕ, zero, suc, _+_, _-_, _*_, _/_, _%_, _≤_, _<_}
-use native.Mathlib.Nat.{eq-zero-or-pos}
+use Prim.Native.Nat.{ℕ, zero, suc, _+_, _-_, _*_, _≤_, _<_}
 use native.Mathlib.Omega.{arith}
 use lib.Dec.{eqb}
 use lib.ListN.{length, getD, set, replicate, length-set}
@@ -13,7 +11,7 @@ use borrow.Author.Tests.{leb-true, ltb-true}
 use Rattle.layout.specs.declared.Layout.{Layout}
 use Rattle.layout.specs.Layout.{valid, Valid}
 use Rattle.layout.proofs.Valid.{facts}
-use Rattle.easy.specs.Easy.{inside, easy, carryOf, wordsOf, easyWords, withWords}
+use Rattle.easy.specs.Easy.{inside, easy, wordsOf, easyWords, withWords}
 use Rattle.easy.specs.Words.{EasyAt}
 use Rattle.easy.proofs.Easy.{three}
 

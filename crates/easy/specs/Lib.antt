@@ -1,2 +1,3 @@
 pub mod Easy
 pub mod Words
+pub mod Each

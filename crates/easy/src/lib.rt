@@ -11,7 +11,10 @@ ghost use mathlib.Core.List.{[], _∷_};
 ghost use Rattle.layout.specs.Layout.{valid, Valid};
 ghost use mathlib.Core.Bool.{_&&_};
 ghost use Rattle.easy.specs.Easy.{inside, easy, shiftOf, carryOf, easyWords, wordsOf, withWords};
-ghost use Rattle.easy.specs.Words.{EasyAt};
+ghost use Rattle.easy.specs.Words.{EasyBy, EasyAt};
+
+pub mod each;
+
 use bits::Order;
 use bits::bits_of;
 use bits::load::bits_be;
@@ -41,16 +44,49 @@ pub fn raw_by(src: &[u8], a: usize, order: usize, shift: u32, precision: u32) ->
     bits_be(src, a, shift, precision)
 }
 
-// Converts the leaf at byte a of src into the leaf at byte b of dst, by the words from word k of w on.
+// Converts the leaf at byte a of src into the leaf at byte b of dst, by the numbers of an easy pair.
+pub fn convert_by(
+    src: &[u8],
+    dst: &mut [u8],
+    b: usize,
+    a: usize,
+    order: usize,
+    shift: u32,
+    precision: u32,
+    carry: u64,
+    size: usize,
+    into: usize,
+)
+    requires { ⌜ ((l : Layout) × (m : Layout) × EasyBy l m order shift precision carry size into × (b + m .size .0 ≤ length (now dst))) × (a + 8 ≤ length (now src)) ⌝ }
+    ensures { λ _. ⌜ ((l m : Layout) → EasyBy l m order shift precision carry size into → b + m .size .0 ≤ length (now (dst .entry)) → now (dst .exit) ≡ stored m b (fitted m (numberAt l a (now (src .entry))) .raw) (now (dst .entry))) ⌝ }
+{
+    let raw = raw_by(src, a, order, shift, precision);
+    let wide = raw + carry * (raw >> (precision - 1));
+    bits::store::store(dst, b, size, order_of(into), wide);
+}
+
+// The same by the words from word k of w on.
 pub fn convert_easy(src: &[u8], dst: &mut [u8], b: usize, a: usize, w: &[u32], k: usize)
     requires { ⌜ ((l : Layout) × (m : Layout) × EasyAt l m (now w) k × (b + m .size .0 ≤ length (now dst))) × (a + 8 ≤ length (now src)) × (k + 8 ≤ length (now w)) ⌝ }
     ensures { λ _. ⌜ ((l m : Layout) → EasyAt l m (now (w .entry)) k → b + m .size .0 ≤ length (now (dst .entry)) → now (dst .exit) ≡ stored m b (fitted m (numberAt l a (now (src .entry))) .raw) (now (dst .entry))) ⌝ }
 {
+    let order = at(w, k);
+    let shift = at(w, k + 1) as u32;
     let precision = at(w, k + 2) as u32;
-    let raw = raw_by(src, a, at(w, k), at(w, k + 1) as u32, precision);
     let carry = (at(w, k + 3) + at(w, k + 4) * 4294967296) as u64;
-    let wide = raw + carry * (raw >> (precision - 1));
-    bits::store::store(dst, b, at(w, k + 5), order_of(at(w, k + 6)), wide);
+    let size = at(w, k + 5);
+    convert_by(
+        src,
+        dst,
+        b,
+        a,
+        order,
+        shift,
+        precision,
+        carry,
+        size,
+        at(w, k + 6),
+    );
 }
 
 // Whether every number of p bits is one of q bits.

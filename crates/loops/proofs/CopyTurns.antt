@@ -11,14 +11,9 @@ use Rattle.datatype.specs.Datatype.{Datatype, size}
 use Rattle.datatype.specs.WellFormed.{WellFormed}
 use Rattle.records.specs.Record.{reading, convertedRecord, raisedBelow}
 use Rattle.records.specs.Records.{readings, exceptions, copyResult}
-use Rattle.loops.specs.Steps.{put}
+use Rattle.loops.specs.Steps.{put, Done}
 use Rattle.loops.proofs.Lists.{row-within, row-next, lent-front, drop-agree, whole-agree, put-drop, put-up}
 use Rattle.loops.proofs.RecordAt.{recordAt, same-reading, record-length, record-in, behind}
-
--- the first i records are done: up to record i the buffer is the result's, from there on as it was, and their exceptions are counted
-abbrev pub Done : Datatype → Datatype → ℕ → ℕ → List ℕ → List ℕ → ℕ → List ℕ → ℕ → Type 0
-Done S D d c src dst₀ i dst total =
-    (take (i * d) dst ≡ take (i * d) (copyResult S D c src dst₀)) × (drop (i * d) dst ≡ drop (i * d) dst₀) × (total ≡ exceptions S D i (readings S D src))
 
 pub start : (S D : Datatype) (d c : ℕ) (src dst₀ : List ℕ) → Done S D d c src dst₀ 0 dst₀ 0
 unfolding exceptions

@@ -14,7 +14,7 @@ use Rattle.records.specs.PlanWords.{entriesAt, Ready, entriesOf, Job}
 use Rattle.records.specs.PlanEntries.{raisingOf}
 use Rattle.records.proofs.Plans.{plan-written, plan-raised, plan-sound}
 use Rattle.loops.specs.Steps.{recordBy, raisedOf}
-use Rattle.loops.proofs.Lists.{tail-lent, lent-room}
+use Rattle.easy.proofs.Lent.{tail-lent, lent-room}
 use Rattle.loops.proofs.Fronts.{sound-more, written-front, raised-front, first-front}
 
 module _ {s d : ℕ} {plan : List ℕ} {n : ℕ} {ws wd to : List ℕ} (j : Job s d plan n ws wd to) where

@@ -5,3 +5,4 @@ pub mod RecordAt
 pub mod CopyTurns
 pub mod PlaceTurns
 pub mod ScanTurns
+pub mod Singles

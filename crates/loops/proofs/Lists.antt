@@ -1,13 +1,14 @@
 -- Laws on lists and products that the record loops share. Nothing here knows what a record is. Assumes nothing.
 use mathlib.Core.Path.{_≡_, refl, sym, ap, subst, _∙_}
-use mathlib.Core.List.{List, [], _∷_, _++_, append-assoc, append-nil}
+use mathlib.Core.List.{List, [], _∷_, _++_, append-assoc}
 use Prim.Native.Nat.{ℕ, zero, suc, _+_, _*_, _-_, _≤_, _<_}
-use native.Mathlib.Nat.{not-suc-le-zero, le-of-suc-le-suc, suc-mul, mul-le-mul-right, le-refl, le-of-eq}
+use native.Mathlib.Nat.{not-suc-le-zero, le-of-suc-le-suc, suc-mul, mul-le-mul-right, le-refl}
 use native.Mathlib.Numerals.{add-one}
 use native.Mathlib.Omega.{arith}
-use lib.ListN.{length, take, drop, set, getD, length-append, length-drop, take-append-drop, drop-of-length-le}
-use lib.Seq.{take-add, take-at, drop-at, drop-drop, take-take, take-append-le, length-take-le, take-all}
+use lib.ListN.{length, take, drop, set, getD, length-append, length-drop, take-append-drop}
+use lib.Seq.{take-add, take-at, drop-at, drop-drop, take-take, take-append-le, length-take-le}
 use borrow.Rule.Slice.PartMut.{putMid}
+use Rattle.easy.proofs.Lent.{lent-whole}
 use Rattle.loops.specs.Steps.{put}
 
 copy-suc : (j : ℕ) (s d : List ℕ) → j < length s → j < length d → set (take j s ++ drop j d) j (getD s j 0) ≡ take (suc j) s ++ drop (suc j) d
@@ -30,23 +31,9 @@ row-next i d = rw (add-one, suc-mul)
 
 -- ---- a part of a slice that is lent from a to the end
 
-pub tail-lent : (a : ℕ) (l : List ℕ) → take (length l - a) (drop a l) ≡ drop a l
-tail-lent a l = take-all (length l - a) (drop a l) (le-of-eq (length-drop a l))
-
 -- the callee replaced the first d elements of the part by r: so are those of the whole from a on
 pub lent-front : (a d : ℕ) (r l e : List ℕ) → e ≡ r ++ drop d (drop a l) → putMid a (length l - a) l e ≡ put a d r l
-lent-front a d r l e h =
-    let none : drop (length l - a) (drop a l) ≡ [] = drop-of-length-le (drop a l) (le-of-eq (length-drop a l)) in
-    rw (h, none, append-nil, drop-drop)
-
-pub lent-room : (a d : ℕ) (l : List ℕ) → a + d ≤ length l → d ≤ length (take (length l - a) (drop a l))
-lent-room a d l h = rw (tail-lent, length-drop) (omega arith)
-
--- a part that came back at its own length
-pub lent-length : (a : ℕ) (l e : List ℕ) → a ≤ length l → length e ≡ length (take (length l - a) (drop a l)) → length (putMid a (length l - a) l e) ≡ length l
-lent-length a l e h k =
-    let none : drop (length l - a) (drop a l) ≡ [] = drop-of-length-le (drop a l) (le-of-eq (length-drop a l)) in
-    rw (none, append-nil, length-append, length-take-le a l h, k, tail-lent, length-drop) (omega arith)
+lent-front a d r l e h = lent-whole a l e ∙ rw (h, drop-drop)
 
 -- ---- lists that agree from an index on, or up to one, agree on less
 

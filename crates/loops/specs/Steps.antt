@@ -1,9 +1,11 @@
--- What the functions inside this crate promise of one record. No meaning of document 01 stands here.
+-- What the functions inside this crate promise of one record, and of the first few. No meaning of document 01 stands here.
+use mathlib.Core.Path.{_≡_}
 use mathlib.Core.List.{List, _++_}
-use Prim.Native.Nat.{ℕ, _+_}
+use Prim.Native.Nat.{ℕ, _+_, _*_}
 use lib.ListN.{take, drop}
-use Rattle.datatype.specs.Datatype.{size}
+use Rattle.datatype.specs.Datatype.{Datatype, size}
 use Rattle.records.specs.Record.{reading, convertedRecord, raisedBelow}
+use Rattle.records.specs.Records.{readings, exceptions, copyResult}
 use Rattle.records.specs.PlanWords.{Job}
 
 -- l with r, d elements long, in the place of the d elements from at on
@@ -17,3 +19,8 @@ recordBy j a b = convertedRecord (j .source) (j .destination) (reading (j .sourc
 -- how many exceptions it raises
 abbrev pub raisedOf : {s d : ℕ} {plan : List ℕ} {n : ℕ} {ws wd to : List ℕ} → Job s d plan n ws wd to → List ℕ → ℕ
 raisedOf j a = raisedBelow (j .source) (j .destination) (reading (j .source) (j .destination) a) (size (j .destination))
+
+-- the first i records are copied: up to record i the buffer is the result's, from there on as it was, and their exceptions are counted
+abbrev pub Done : Datatype → Datatype → ℕ → ℕ → List ℕ → List ℕ → ℕ → List ℕ → ℕ → Type 0
+Done S D d c src dst₀ i dst total =
+    (take (i * d) dst ≡ take (i * d) (copyResult S D c src dst₀)) × (drop (i * d) dst ≡ drop (i * d) dst₀) × (total ≡ exceptions S D i (readings S D src))

@@ -4,6 +4,7 @@ ghost use Prim.Native.Nat.{_*_, _≤_};
 ghost use lib.ListN.{length};
 ghost use Rattle.records.specs.Records.{readings, exceptions, copyResult};
 ghost use Rattle.records.specs.PlanWords.{Job};
+use crate::single::copy_single;
 use records::record::write_record;
 
 // Converts c records of s bytes in src into c records of d bytes in dst, and counts the exceptions.
@@ -23,7 +24,7 @@ pub fn copy_records(
     ensures { λ r. ⌜ ((j : Job s d (now (plan .entry)) n (now (ws .entry)) (now (wd .entry)) (now (to .entry))) → (now (dst .exit) ≡ copyResult (j .source) (j .destination) c (now (src .entry)) (now (dst .entry))) × (r ≡ exceptions (j .source) (j .destination) c (readings (j .source) (j .destination) (now (src .entry))))) ⌝ }
 {
     let mut total: u64 = 0;
-    let mut i: usize = 0;
+    let mut i = copy_single(src, dst, c, s, d, plan, n, ws, wd, to);
     while i < c {
         total += write_record(&src[i * s..], &mut dst[i * d..], plan, n, ws, wd, to);
         i += 1;

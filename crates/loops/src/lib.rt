@@ -3,6 +3,7 @@ pub mod bytes;
 pub mod copying;
 pub mod in_place;
 pub mod scan;
+mod single;
 
 // The first exception of all records: the record, the byte of the destination record, and the kind.
 pub enum Stop {

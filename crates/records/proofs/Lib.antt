@@ -7,6 +7,7 @@ pub mod Matched
 pub mod Plans
 pub mod LeafSteps
 pub mod Entries
+pub mod OneEntry
 pub mod Translations
 pub mod EnumWords
 pub mod EasyLeaves

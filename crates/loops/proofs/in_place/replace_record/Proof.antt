@@ -11,8 +11,9 @@ write-record-requires c κs = ready (c .before .before .before .before .before .
 
 returns : tie.Need-returns
 returns c =
-    let a = c .before .before .before .before .before .before .before .before .before .before .before .before .before .before .before .before .before .before .before .before .before .before .before .args in
-    λ j. one j (a .buf .now) (a .background .now) _ _ _ _ (a .i * a .s) (a .i * a .d) _ (search needs) (search needs) (search needs) (c .before .before .before .before .before .before .before .before .before .before .before .before .copy-bytes .ensures) (c .before .before .before .before .before .before .before .copy-bytes2 .ensures) (c .before .before .write-record .ensures)
+    let top = c .before .before .before .before .before .before .before .before .before .before .before .before .before .before .before .before .before .before .before .before .before .before .before in
+    let a = top .args in
+    λ j. one j (a .buf .now) (a .background .now) _ _ _ _ (a .i * a .s) (a .i * a .d) _ (top .pre .1) (top .pre .2) (top .pre .3) (c .before .before .before .before .before .before .before .before .before .before .before .before .copy-bytes .ensures) (c .before .before .before .before .before .before .before .copy-bytes2 .ensures) (c .before .before .write-record .ensures)
 
 pub replace-record-spec : {M : Type 1} → statement M
 replace-record-spec =

@@ -6,8 +6,9 @@ use native.Mathlib.Omega.{arith}
 use borrow.Author.Needs.{needs}
 use Rattle.records.specs.Plan.{planOf}
 use Rattle.records.specs.PlanWords.{Job}
+use Rattle.easy.proofs.Lent.{lent-room}
 use Rattle.loops.specs.Stops.{stopBy}
-use Rattle.loops.proofs.Lists.{row-within, lent-room}
+use Rattle.loops.proofs.Lists.{row-within}
 use Rattle.loops.proofs.Jobs.{ready, job-scan}
 use Rattle.loops.proofs.ScanTurns.{stop-start, stop-end, stop-found, stop-turn}
 use Rattle.loops.proofs.scan.first_exception.Statement.{statement}

@@ -10,7 +10,7 @@ convert-easy-requires : tie.Need-convert-easy-requires
 convert-easy-requires c κs =
     let t = c .before .before .before .before in
     let x = t .before .before .before .before .before .before .before in
-    ((_, _, easy-at _ _ _ _ _ (x .args .i) (x .pre .easy) (t .before .at .ensures) (t .if1 .taken) (c .before .if3 .taken), x .pre .write), omega (arith, c .before .before .if2 .taken, x .pre .read), x .pre .words)
+    ((_, _, easy-at _ _ _ _ (x .args .to .now) (x .args .i) (x .pre .easy) (t .before .at .ensures) (t .if1 .taken) (c .before .if3 .taken), x .pre .write), omega (arith, c .before .before .if2 .taken, x .pre .read), x .pre .words)
 
 returns : tie.Need-returns
 returns c =
@@ -18,10 +18,10 @@ returns c =
     let three = call .before .before in
     let t = three .before .before .before in
     let x = t .before .before .before .before .before .before .before in
-    let e = easy-at _ _ _ _ _ (x .args .i) (x .pre .easy) (t .before .at .ensures) (t .if1 .taken) (three .if3 .taken) in
+    let e = easy-at _ _ _ _ (x .args .to .now) (x .args .i) (x .pre .easy) (t .before .at .ensures) (t .if1 .taken) (three .if3 .taken) in
     λ p. (
-      easy-kind _ _ _ _ _ (x .args .i) (x .pre .easy) (t .before .at .ensures) (t .if1 .taken) (three .if3 .taken) p (x .args .e .from) (x .args .src .now),
-      easy-stored _ _ _ _ _ (x .args .i) (x .pre .easy) (t .before .at .ensures) (t .if1 .taken) (three .if3 .taken) p (x .args .e .from) (x .args .src .now) (x .args .e .to) (x .args .dst .now) (call .convert-easy .ensures _ _ e (x .pre .write)),
+      easy-kind _ _ _ _ (x .args .to .now) (x .args .i) (x .pre .easy) (t .before .at .ensures) (t .if1 .taken) (three .if3 .taken) p (x .args .e .from) (x .args .src .now),
+      easy-stored _ _ _ _ (x .args .to .now) (x .args .i) (x .pre .easy) (t .before .at .ensures) (t .if1 .taken) (three .if3 .taken) p (x .args .e .from) (x .args .src .now) (x .args .e .to) (x .args .dst .now) (call .convert-easy .ensures _ _ e (x .pre .write)),
     )
 
 convert-enum-requires : tie.Need-convert-enum-requires
