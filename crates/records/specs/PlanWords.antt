@@ -1,5 +1,6 @@
 -- The plan in words, as a call holds it: four words an entry, which are the destination byte, the source byte, the source type's number and the destination
--- type's. `ws` and `wd` are the two halves of the working table, `ts` and `td` the sheets' texts beside them.
+-- type's. `ws` and `wd` are the two halves of the working table, `ts` and `td` the sheets' texts beside them. `to` holds what else is worked out once a call: rows of
+-- destination enums by source rows (`Translates`), rows of source enums by numbers (`Numbers`), and eight words an entry (`EasyEntry`).
 use mathlib.Core.Path.{_≡_}
 use mathlib.Core.Bool.{Bool, true, cond, _&&_}
 use mathlib.Core.List.{List, [], _∷_}
