@@ -1,5 +1,11 @@
 -- `number::convert` meets its contract. Assumes nothing.
+use mathlib.Core.Path.{_≡_, ap, _∙_}
+use Prim.Native.Nat.{ℕ}
+use denote.Ref.{now}
 use borrow.Author.Needs.{needs}
+use Rattle.number.specs.declared.Fitted.{Fitted}
+use Rattle.number.specs.Number.{valued, fitted, numberAt}
+use Rattle.number.specs.Place.{stored}
 use Rattle.number.proofs.convert.Statement.{statement}
 use Rattle.number.proofs.convert.Tie as tie
 
@@ -16,7 +22,12 @@ same-length : tie.Need-same-length
 same-length c = search needs
 
 returns : tie.Need-returns
-returns c = (cc, cc)
+returns c =
+    let k = c .before .before .before .before in
+    let a = k .before .before .before .before .args in
+    let e : k .fit-raw .result ≡ fitted (a .m) (numberAt (a .l) (a .at .0) (now (a .s))) =
+    k .fit-raw .ensures .0 ∙ ap (λ (r : ℕ). fitted (a .m) (valued (a .l .signed) (a .l .precision) r)) (k .before .raw-at .ensures .0) in
+    (ap (λ (f : Fitted). f .kind) e, c .before .before .store .ensures ∙ ap (λ (f : Fitted). stored (a .m) (a .to .0) (f .raw) (now (a .d))) e)
 
 pub convert-spec : {M : Type 1} → statement M
 convert-spec =

@@ -1,6 +1,6 @@
 -- `bits::store::put1` meets its contract. Assumes nothing.
 use Prim.Native.Nat.{ℕ, _+_, _*_, _^_, _≤_, _<_}
-use mathlib.Core.Path.{_≡_, ap, ap₂, sym, _∙_}
+use mathlib.Core.Path.{_≡_, _∙_}
 use native.Mathlib.Omega.{arith}
 use denote.Ref.{now}
 use Rattle.bits.proofs.Words.{put-all}
@@ -18,7 +18,7 @@ returns : tie.Need-returns
 returns c =
     let a = c .before .before .before .before .before .args in
     let p = put-all (now (a .d)) (a .at) (a .order) 1 (a .c) (c .before .before .before .before .before .pre) in
-    cc
+    c .before .before .put-one .ensures .0 ∙ p
 
 pub put1-spec : {M : Type 1} → statement M
 put1-spec = tie.close (tie.spec put-one-requires same-length returns)

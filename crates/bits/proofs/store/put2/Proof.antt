@@ -1,6 +1,9 @@
 -- `bits::store::put2` meets its contract. Assumes nothing.
 use Prim.Native.Nat.{ℕ, _+_, _*_, _^_, _≤_, _<_}
-use mathlib.Core.Path.{_≡_, ap, ap₂, sym, _∙_}
+use mathlib.Core.Path.{_≡_, ap, _∙_}
+use mathlib.Core.List.{List}
+use lib.ListN.{set, getD}
+use Rattle.bits.specs.Container.{contained}
 use native.Mathlib.Omega.{arith}
 use denote.Ref.{now}
 use Rattle.bits.proofs.Words.{put-all}
@@ -21,7 +24,9 @@ returns : tie.Need-returns
 returns c =
     let a = c .before .before .before .before .before .before .before .before .before .args in
     let p = put-all (now (a .d)) (a .at) (a .order) 2 (a .c) (c .before .before .before .before .before .before .before .before .before .pre) in
-    cc
+    c .before .before .put-one2 .ensures .0
+    ∙ ap (λ (x : List ℕ). set x (a .at + 1) (getD (contained (a .order) 2 (a .c)) 1 0)) (c .before .before .before .before .before .before .put-one .ensures .0)
+    ∙ p
 
 pub put2-spec : {M : Type 1} → statement M
 put2-spec = tie.close (tie.spec put-one-requires put-one-requires-2 same-length returns)

@@ -1,5 +1,5 @@
 -- `bits::store::put4` meets its contract. Assumes nothing.
-use mathlib.Core.Path.{_≡_}
+use mathlib.Core.Path.{_≡_, _∙_}
 use denote.Ref.{now}
 use Rattle.bits.proofs.Words.{put-all}
 use borrow.Author.Needs.{needs}
@@ -16,7 +16,7 @@ returns : tie.Need-returns
 returns c =
     let a = c .before .before .before .before .before .args in
     let p = put-all (now (a .d)) (a .at) (a .order) 4 (a .c) (c .before .before .before .before .before .pre) in
-    cc
+    c .before .before .put-four .ensures .0 ∙ p
 
 pub put4-spec : {M : Type 1} → statement M
 put4-spec = tie.close (tie.spec put-four-requires same-length returns)

@@ -1,10 +1,11 @@
 -- `number::place::fill` meets its contract. The pads and the significant bits stand side by side in the container's bits (`cat-within`). Assumes nothing.
-use Prim.Native.Nat.{_<_, _^_}
-use mathlib.Core.Path.{_≡_}
+use Prim.Native.Nat.{ℕ, _+_, _-_, _*_, _<_, _^_}
+use mathlib.Core.Path.{_≡_, ap, ap₂, _∙_}
 use native.Mathlib.Nat.{lt-of-lt-of-le}
 use native.Mathlib.Omega.{arith}
 use borrow.Author.Needs.{needs}
 use lib.Pow.{pow-mono, shr-lt}
+use Rattle.number.specs.Place.{padded}
 use Rattle.number.proofs.Fields.{cat-within}
 use Rattle.number.proofs.place.fill.Statement.{statement}
 use Rattle.number.proofs.place.fill.Tie as tie
@@ -45,7 +46,15 @@ join-requires-2 c κs =
     (omega arith, cat-within _ _ 64 (c .before .pad-bits2 .ensures .1) (rw (c .join .ensures) (cat-within _ _ _ (pre .2) low (omega arith))) (omega arith))
 
 returns : tie.Need-returns
-returns c = cc
+returns c =
+    let high = c .before .before in
+    let low = high .before .before .before in
+    let l = low .before .before .before .before .args .l in
+    let end = l .offset .0 + l .precision in
+    let h = high .pad-bits2 .ensures .0 ∙ ap₂ (λ (w g : ℕ). padded (l .msb) (w - end) g) (low .before .before .bits-of .ensures) (high .before .shift-right .ensures) in
+    let k = low .pad-bits .ensures .0 ∙ ap (padded (l .lsb) (l .offset .0)) (low .before .low-bits .ensures .0) in
+    c .join2 .ensures
+    ∙ ap₂ (λ (x y : ℕ). x * 2 ^ end + y) h (c .before .join .ensures ∙ ap (λ (x : ℕ). low .before .before .before .before .args .raw * 2 ^ l .offset .0 + x) k)
 
 pub fill-spec : {M : Type 1} → statement M
 fill-spec =

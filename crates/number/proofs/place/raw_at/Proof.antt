@@ -1,4 +1,6 @@
 -- `number::place::raw_at` meets its contract. Assumes nothing.
+use mathlib.Core.Path.{_≡_, ap, _∙_}
+use Prim.Native.Nat.{ℕ, _/_, _%_, _^_}
 use borrow.Author.Needs.{needs}
 use Rattle.number.proofs.place.raw_at.Statement.{statement}
 use Rattle.number.proofs.place.raw_at.Tie as tie
@@ -22,7 +24,12 @@ low-bits-requires : tie.Need-low-bits-requires
 low-bits-requires c κs = search needs
 
 returns-2 : tie.Need-returns-2
-returns-2 c = (cc, search needs)
+returns-2 c =
+    let l = c .before .before .before .before .before .args .l in (
+      c .low-bits .ensures .0
+          ∙ ap (λ (x : ℕ). x % 2 ^ l .precision) (c .before .shift-right .ensures ∙ ap (λ (x : ℕ). x / 2 ^ l .offset .0) (c .before .before .load .ensures .0)),
+      c .low-bits .ensures .1,
+    )
 
 pub raw-at-spec : {M : Type 1} → statement M
 raw-at-spec =

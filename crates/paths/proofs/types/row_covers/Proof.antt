@@ -1,10 +1,18 @@
 -- `paths::types::row_covers` meets its contract. Assumes nothing.
+use Prim.Native.Nat.{ℕ}
+use mathlib.Core.Path.{_≡_, ap, ap₂, _∙_}
+use denote.Ref.{now}
 use borrow.Author.Needs.{needs}
+use Rattle.datatype.specs.Leaves.{within}
+use Rattle.table.specs.Table.{sizeWord}
 use Rattle.paths.proofs.types.row_covers.Statement.{statement}
 use Rattle.paths.proofs.types.row_covers.Tie as tie
 
 returns : tie.Need-returns
-returns c = cc
+returns c =
+    let a = c .before .before .before .before .before .args in
+    c .inside .ensures
+    ∙ ap₂ (λ (o z : ℕ). within o z (a .b)) (c .before .before .before .row-word .ensures .is) (c .before .type-word .ensures .is ∙ ap (sizeWord (now (a .w))) (c .before .before .row-word2 .ensures .is))
 
 pub row-covers-spec : {M : Type 1} → statement M
 row-covers-spec =

@@ -1,4 +1,6 @@
 -- `table::records::atomic_record` meets its contract. Assumes nothing.
+use Prim.Native.Nat.{ℕ}
+use mathlib.Core.Path.{_≡_, ap, _∙_}
 use Rattle.table.specs.Records.{layoutRecord}
 use borrow.Author.Needs.{needs}
 use Rattle.table.proofs.records.atomic_record.Statement.{statement}
@@ -11,8 +13,9 @@ layout-record-requires : tie.Need-layout-record-requires
 layout-record-requires c κs = search needs
 
 returns : tie.Need-returns
-unfolding layoutRecord
-returns c = cc
+returns c =
+    let a = c .before .before .args in
+    c .layout-record .ensures ∙ ap (λ (k : ℕ). layoutRecord k (a .l) (a .first)) (c .before .class-code .ensures)
 
 pub atomic-record-spec : {M : Type 1} → statement M
 atomic-record-spec = tie.close (tie.spec class-code-requires layout-record-requires returns)

@@ -1,4 +1,8 @@
 -- `table::store::add_row` meets its contract. Assumes nothing.
+use Prim.Native.Nat.{ℕ, _+_, _*_}
+use mathlib.Core.Path.{_≡_, ap₂, _∙_}
+use mathlib.Core.List.{List}
+use lib.ListN.{set}
 use Rattle.table.specs.Records.{rowAdded}
 use borrow.Author.Needs.{needs}
 use Rattle.table.proofs.store.add_row.Statement.{statement}
@@ -24,7 +28,9 @@ same-length c = search needs
 
 returns : tie.Need-returns
 unfolding rowAdded
-returns c = cc
+returns c =
+    c .before .before .put-rows-word .ensures
+    ∙ ap₂ (λ (x : List ℕ) (n : ℕ). set x (16 * c .before .before .before .before .before .before .before .before .before .before .before .args .i + 10) (n + 1)) (c .before .before .before .before .before .before .put-row .ensures) (c .before .before .before .before .before .before .before .before .type-word .ensures .is)
 
 pub add-row-spec : {M : Type 1} → statement M
 add-row-spec =
