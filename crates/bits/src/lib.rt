@@ -3,9 +3,7 @@ ghost use mathlib.Core.Path.{_≡_};
 ghost use Prim.Native.Nat.{_*_, _<_};
 ghost use Rattle.bits.specs.Index.{indexOf};
 
-pub mod load;
 pub mod shift;
-pub mod store;
 
 // Which end of a container its lowest byte is at: the lowest address (LE) or the highest (BE).
 pub enum Order {

@@ -4,7 +4,7 @@ use mathlib.Core.List.{List}
 use Prim.Native.Nat.{ℕ}
 use Rattle.answer.specs.declared.Answer.{Answer}
 use Rattle.answer.specs.Answer.{numberOf}
-use Rattle.convert.specs.Run.{Run, answer, after, tableAfter}
+use Rattle.runs.specs.Run.{Run, answer, after, tableAfter}
 use Rattle.convert.specs.Call.{Answers}
 use Rattle.capi.specs.Calls.{wordsOf, Gives, Called, Converts}
 

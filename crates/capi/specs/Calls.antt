@@ -4,7 +4,7 @@ use mathlib.Core.List.{List, [], _∷_}
 use Prim.Native.Nat.{ℕ}
 use Rattle.answer.specs.declared.Answer.{Answer}
 use Rattle.answer.specs.Answer.{numberOf, valuesOf}
-use Rattle.convert.specs.Run.{Run, answer, after, tableAfter}
+use Rattle.runs.specs.Run.{Run, answer, after, tableAfter}
 
 -- an answer as eight words: its number, every field beside it, and two words for later, which are 0
 abbrev pub wordsOf : Answer → List ℕ

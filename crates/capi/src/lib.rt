@@ -1,6 +1,6 @@
 // The calls for C: an answer and a layout are eight words each, lent by one pointer; a slice is a pointer and a length.
 ghost use lib.ListN.{length};
-ghost use Rattle.convert.specs.Run.{copyingRun, inPlaceRun, plain};
+ghost use Rattle.runs.specs.Run.{copyingRun, inPlaceRun, plain};
 ghost use Rattle.leaves.specs.LeafList.{answerOf, listAfter};
 ghost use Rattle.capi.specs.Calls.{Gives, Called, Converts};
 use answer::Answer;

@@ -15,7 +15,6 @@ use answer::number_of;
 use bits::BitAt;
 use bits::ByteAt;
 use layout::Edited;
-use layout::setters;
 
 // Where all words and arguments are codes, the edited layout's words and the setter's number; else RANGE, and the words stay.
 fn put(coded: bool, e: Edited, layout: &mut [u32; 8]) -> u32
@@ -36,7 +35,7 @@ pub extern "C" fn yirvagul_set_size(layout: &mut [u32; 8], size: u32) -> u32
     ensures { λ r. ⌜ record { number = r; words = now (layout .exit) } ≡ setterCall true (ofSize size) (now (layout .entry)) ⌝ }
 {
     let w = *layout;
-    let e = setters::set_size(layout_of(w), ByteAt(size as usize));
+    let e = layout_setters::set_size(layout_of(w), ByteAt(size as usize));
     put(is_coded(w), e, layout)
 }
 
@@ -45,7 +44,7 @@ pub extern "C" fn yirvagul_set_order(layout: &mut [u32; 8], order: u32) -> u32
     ensures { λ r. ⌜ record { number = r; words = now (layout .exit) } ≡ setterCall (leb order 1) (ofOrder (orderOf order)) (now (layout .entry)) ⌝ }
 {
     let w = *layout;
-    let e = setters::set_order(layout_of(w), order_of(order));
+    let e = layout_setters::set_order(layout_of(w), order_of(order));
     put(both(order <= 1, is_coded(w)), e, layout)
 }
 
@@ -54,7 +53,7 @@ pub extern "C" fn yirvagul_set_precision(layout: &mut [u32; 8], precision: u32) 
     ensures { λ r. ⌜ record { number = r; words = now (layout .exit) } ≡ setterCall true (ofPrecision precision) (now (layout .entry)) ⌝ }
 {
     let w = *layout;
-    let e = setters::set_precision(layout_of(w), precision);
+    let e = layout_setters::set_precision(layout_of(w), precision);
     put(is_coded(w), e, layout)
 }
 
@@ -63,7 +62,7 @@ pub extern "C" fn yirvagul_set_offset(layout: &mut [u32; 8], offset: u32) -> u32
     ensures { λ r. ⌜ record { number = r; words = now (layout .exit) } ≡ setterCall true (ofOffset offset) (now (layout .entry)) ⌝ }
 {
     let w = *layout;
-    let e = setters::set_offset(layout_of(w), BitAt(offset));
+    let e = layout_setters::set_offset(layout_of(w), BitAt(offset));
     put(is_coded(w), e, layout)
 }
 
@@ -72,7 +71,7 @@ pub extern "C" fn yirvagul_set_pads(layout: &mut [u32; 8], lsb: u32, msb: u32) -
     ensures { λ r. ⌜ record { number = r; words = now (layout .exit) } ≡ setterCall (leb lsb 2 && leb msb 2) (ofPads (padOf lsb) (padOf msb)) (now (layout .entry)) ⌝ }
 {
     let w = *layout;
-    let e = setters::set_pads(layout_of(w), pad_of(lsb), pad_of(msb));
+    let e = layout_setters::set_pads(layout_of(w), pad_of(lsb), pad_of(msb));
     put(both(both(lsb <= 2, msb <= 2), is_coded(w)), e, layout)
 }
 
@@ -82,6 +81,6 @@ pub extern "C" fn yirvagul_set_sign(layout: &mut [u32; 8], sign: u32) -> u32
     ensures { λ r. ⌜ record { number = r; words = now (layout .exit) } ≡ setterCall (leb sign 1) (ofSign (signOf sign)) (now (layout .entry)) ⌝ }
 {
     let w = *layout;
-    let e = setters::set_sign(layout_of(w), sign == 1);
+    let e = layout_setters::set_sign(layout_of(w), sign == 1);
     put(both(sign <= 1, is_coded(w)), e, layout)
 }

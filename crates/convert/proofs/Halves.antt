@@ -18,7 +18,7 @@ use Rattle.sheet.specs.Read.{StandsAfter, ReadsSheet}
 use Rattle.sheet.proofs.Types.{sheet-fault, sheet-type, type-formed}
 use Rattle.convert.specs.declared.Sheets.{Sheets}
 use Rattle.convert.specs.declared.Sheets.the-variants.{Types, Source, Destination}
-use Rattle.convert.specs.Run.{Form, Checked, target, typeChecks, sheetChecks}
+use Rattle.runs.specs.Run.{Form, Checked, target, typeChecks, sheetChecks}
 use Rattle.convert.specs.Call.{first, second, IsSheet, SourceRead, ReadAs, SheetsRead, Both, Leaves}
 use Rattle.convert.proofs.Parts.{refuses, source-faulty, destination-faulty, both-read}
 

@@ -1,7 +1,3 @@
-pub mod Checks
-pub mod Exceptions
-pub mod Buffers
-pub mod Table
 pub mod Parts
 pub mod Halves
 pub mod Whole

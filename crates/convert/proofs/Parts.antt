@@ -33,11 +33,11 @@ use Rattle.loops.specs.declared.Stop.{Stop}
 use Rattle.loops.specs.declared.Stop.the-variants.{At, Nowhere}
 use Rattle.loops.specs.Stops as stops
 use Rattle.loops.specs.Stops.{stopBy}
-use Rattle.convert.specs.Run.{Form, Checked, handled, target, result, ifDone, hasRoom, stopFrom, typeChecks, sheetChecks}
-use Rattle.convert.specs.Run.Form.{copying, inPlace}
-use Rattle.convert.specs.Run.Checked.{refused, passed}
+use Rattle.runs.specs.Run.{Form, Checked, handled, target, result, ifDone, hasRoom, stopFrom, typeChecks, sheetChecks}
+use Rattle.runs.specs.Run.Form.{copying, inPlace}
+use Rattle.runs.specs.Run.Checked.{refused, passed}
 use Rattle.convert.specs.Call.{first, second, IsSheet, Both, Leaves}
-use Rattle.convert.proofs.Exceptions.{handled-quiet}
+use Rattle.runs.proofs.Exceptions.{handled-quiet}
 
 -- ---- a refusal
 

@@ -17,12 +17,12 @@ use Rattle.datatype.specs.Paths.{hasPath}
 use Rattle.sheet.specs.Sheet.{Sheet, sheetOf}
 use Rattle.sheet.specs.Sheet.Sheet.{ofType, faultyAt}
 use Rattle.records.specs.Records.{readings}
-use Rattle.convert.specs.Run.{Form, Run, Checked, handled, target, require, withSheet, hasRoom, typeChecks, sheetChecks, checksOf, checks, answer, after, cleared, tableAfter}
-use Rattle.convert.specs.Run as run
-use Rattle.convert.specs.Run.Checked.{refused, passed}
+use Rattle.runs.specs.Run.{Form, Run, Checked, handled, target, require, withSheet, hasRoom, typeChecks, sheetChecks, checksOf, checks, answer, after, cleared, tableAfter}
+use Rattle.runs.specs.Run as run
+use Rattle.runs.specs.Run.Checked.{refused, passed}
 use Rattle.convert.specs.Call.{Answers, answered, Leaves}
-use Rattle.convert.proofs.Checks.{done-is, stop-is}
-use Rattle.convert.proofs.Exceptions.{handled-number}
+use Rattle.runs.proofs.Checks.{done-is, stop-is}
+use Rattle.runs.proofs.Exceptions.{handled-number}
 
 pub bad-handling : (r : Run) → 1 < r .handling → Answers r answer.Handling (target (r .form) (r .source) (r .background)) (r .table)
 unfolding answer after checksOf

@@ -14,7 +14,7 @@ use Rattle.sheet.specs.Sheet.Sheet.{ofType, faultyAt}
 use Rattle.records.specs.Records.{readings}
 use Rattle.convert.specs.declared.Sheets.{Sheets}
 use Rattle.convert.specs.declared.Sheets.the-variants.{Types, Source, Destination}
-use Rattle.convert.specs.Run.{Form, Run, Checked, onChecked, handled, target, result, ifDone, answer, after, tableAfter}
+use Rattle.runs.specs.Run.{Form, Run, Checked, onChecked, handled, target, result, ifDone, answer, after, tableAfter}
 
 -- a call's answer r, the buffer that it writes and the table, afterwards: all as the run says
 pub record Answers (run : Run) (r : Answer) (out table : List ℕ) : Type 0 where

@@ -1,4 +1,1 @@
-pub mod Run
-pub mod Parts
-pub mod FirstException
 pub mod Call

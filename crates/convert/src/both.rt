@@ -4,7 +4,7 @@ ghost use lib.ListN.{length};
 ghost use Rattle.convert.specs.Call.{SourceRead, SheetsRead};
 use crate::Sheets;
 use sheet::SheetRead;
-use sheet::read::read_sheet;
+use reading::read_sheet;
 
 // The destination sheet, where the source's types stand in the first half: n of them.
 fn read_destination(ss: &[u8], ds: &[u8], table: &mut [u32], n: u32, m: u32) -> Sheets

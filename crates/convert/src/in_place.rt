@@ -4,15 +4,15 @@ ghost use Prim.Native.Nat.{_*_, _≤_};
 ghost use lib.ListN.{length};
 ghost use Rattle.records.specs.PlanWords.{Job};
 ghost use Rattle.table.specs.Table.{typeAt};
-ghost use Rattle.convert.specs.Run.{typeChecks, sheetChecks};
-ghost use Rattle.convert.specs.Run.Checked.{passed};
-ghost use Rattle.convert.specs.Run.Form.{inPlace};
+ghost use Rattle.runs.specs.Run.{typeChecks, sheetChecks};
+ghost use Rattle.runs.specs.Run.Checked.{passed};
+ghost use Rattle.runs.specs.Run.Form.{inPlace};
 ghost use Rattle.convert.specs.Call.{ReadAs, Both, Leaves};
 use crate::Sheets;
 use crate::both::read_sheets;
 use answer::Answer;
 use loops::Stop;
-use loops::scan::first_exception;
+use scan_loop::first_exception;
 use table::read::type_word;
 
 // Everything is checked and planned: c records of s bytes to records of d bytes.
@@ -33,7 +33,7 @@ fn convert_planned(
     ensures { λ r. ⌜ ((j : Job s d (now (plan .entry)) n (now (ws .entry)) (now (wd .entry)) (now (to .entry))) → Leaves inPlace handling c (now (buffer .entry)) (now (background .entry)) (passed (j .source) (j .destination)) r (now (buffer .exit))) ⌝ }
 {
     if handling == 0 {
-        return Answer::Done(loops::in_place::replace_records(
+        return Answer::Done(in_place_loop::replace_records(
             buffer,
             background,
             c,
@@ -48,7 +48,7 @@ fn convert_planned(
     }
     match first_exception(buffer, c, s, plan, n, ws, wd, to) {
         Stop::At(i, b, kind) => Answer::Stop(i, b, kind),
-        Stop::Nowhere => Answer::Done(loops::in_place::replace_records(
+        Stop::Nowhere => Answer::Done(in_place_loop::replace_records(
             buffer,
             background,
             c,
@@ -83,10 +83,10 @@ fn convert_passed(
 {
     let mut plan = [0u32; 16384];
     let mut to = [0u32; 65536];
-    let n = paths::plan::plan(ws, ss, i, wd, ds, k, &mut plan);
-    records::names::translations(ws, ss, wd, ds, &mut to);
-    records::names::numbers(ws, &mut to);
-    records::words::put_entries(&plan, n, ws, wd, &mut to);
+    let n = planning::plan(ws, ss, i, wd, ds, k, &mut plan);
+    names_of::translations(ws, ss, wd, ds, &mut to);
+    names_of::numbers(ws, &mut to);
+    plan_words::put_entries(&plan, n, ws, wd, &mut to);
     convert_planned(c, handling, buffer, background, s, d, &plan, n, ws, wd, &to)
 }
 
@@ -108,7 +108,7 @@ fn convert_typed(
     requires { ⌜ Both (now ss) (now ws) i (now ds) (now wd) k s d × (handling ≤ 1) ⌝ }
     ensures { λ r. ⌜ Leaves inPlace handling count (now (buffer .entry)) (now (background .entry)) (typeChecks inPlace count (length (now (buffer .entry))) (length (now (background .entry))) (typeAt (now (ws .entry)) (now (ss .entry)) i) (typeAt (now (wd .entry)) (now (ds .entry)) k)) r (now (buffer .exit)) ⌝ }
 {
-    if !paths::path::has_path(ws, ss, i, wd, ds, k) {
+    if !path_search::has_path(ws, ss, i, wd, ds, k) {
         return Answer::Path;
     }
     if 65536 < count {

@@ -17,8 +17,8 @@ pub mod each;
 
 use bits::Order;
 use bits::bits_of;
-use bits::load::bits_be;
-use bits::load::bits_le;
+use loading::bits_be;
+use loading::bits_le;
 use bits::shift::ones;
 use layout::Layout;
 use layout::is_valid;
@@ -62,7 +62,7 @@ pub fn convert_by(
 {
     let raw = raw_by(src, a, order, shift, precision);
     let wide = raw + carry * (raw >> (precision - 1));
-    bits::store::store(dst, b, size, order_of(into), wide);
+    storing::store(dst, b, size, order_of(into), wide);
 }
 
 // The same by the words from word k of w on.

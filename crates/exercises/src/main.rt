@@ -6,9 +6,9 @@ use layout::Class;
 use layout::Edited;
 use layout::Layout;
 use layout::Pad;
-use layout::setters::set_offset;
-use layout::setters::set_precision;
-use layout::setters::set_size;
+use layout_setters::set_offset;
+use layout_setters::set_precision;
+use layout_setters::set_size;
 use libc::STDOUT_FILENO;
 use number::Number;
 use number::Parts;
@@ -88,8 +88,8 @@ fn write(label: &[u8], n: u64, l: Layout, bytes: &mut [u8]) {
     show(label);
     if layout::is_valid(l) {
         if l.size.0 <= bytes.len() {
-            let f = number::fit::fit(Number::Unsigned(n), l);
-            number::place::store(bytes, ByteAt(0), l, f.raw);
+            let f = fitting::fit(Number::Unsigned(n), l);
+            placing::store(bytes, ByteAt(0), l, f.raw);
             show_bytes(bytes, l.size.0);
             show_kind(f.kind);
         }
@@ -101,7 +101,7 @@ fn read(label: &[u8], bytes: &[u8], l: Layout) {
     show(label);
     if layout::is_valid(l) {
         if l.size.0 <= bytes.len() {
-            show_parts(number::sign::split(number::read(bytes, ByteAt(0), l)));
+            show_parts(number::sign::split(one_number::read(bytes, ByteAt(0), l)));
         }
     }
 }
@@ -113,7 +113,7 @@ fn convert(label: &[u8], bytes: &[u8], l: Layout, m: Layout, after: &mut [u8]) {
         if layout::is_valid(m) {
             if l.size.0 <= bytes.len() {
                 if m.size.0 <= after.len() {
-                    let kind = number::convert(bytes, ByteAt(0), l, after, ByteAt(0), m);
+                    let kind = one_number::convert(bytes, ByteAt(0), l, after, ByteAt(0), m);
                     show_bytes(after, m.size.0);
                     show_kind(kind);
                 }

@@ -10,7 +10,6 @@ use bits::ByteAt;
 use bits::Order;
 use bits::bits_of;
 
-pub mod setters;
 
 pub enum Class {
     Int,

@@ -22,7 +22,7 @@ use Rattle.sheet.specs.Sheet.{Sheet, sheetOf}
 use Rattle.sheet.specs.Sheet.Sheet.{ofType, faultyAt}
 use Rattle.sheet.specs.Read.{ReadsSheet}
 use Rattle.sheet.proofs.Types.{sheet-fault, sheet-type, type-formed}
-use Rattle.convert.specs.Run.{cleared, tableAfter}
+use Rattle.runs.specs.Run.{cleared, tableAfter}
 use Rattle.leaves.specs.LeafList.{leafLines, leafList, listAnswer, answerOf, listAfter}
 use Rattle.leaves.specs.Lines.{header, written, Wrote, Lists}
 use Rattle.leaves.proofs.Writing.{written-is, written-append, wrote}

@@ -17,7 +17,7 @@ use Rattle.text.specs.Text.{bytes, tab, newline}
 use Rattle.text.specs.Field.{decimalOf}
 use Rattle.sheet.specs.Sheet.{Sheet, sheetOf}
 use Rattle.sheet.specs.Sheet.Sheet.{ofType, faultyAt}
-use Rattle.convert.specs.Run.{ifDone}
+use Rattle.runs.specs.Run.{ifDone}
 
 abbrev pub atomicName : Class → List ℕ
 atomicName Int = bytes "int"

@@ -13,7 +13,7 @@ use Rattle.datatype.specs.Leaves.{leafAt}
 use Rattle.text.specs.Text.{bytes, tab}
 use Rattle.text.specs.Field.{decimalOf}
 use Rattle.sheet.specs.Sheet.{Sheet}
-use Rattle.convert.specs.Run.{ifDone}
+use Rattle.runs.specs.Run.{ifDone}
 use Rattle.leaves.specs.LeafList.{leafLine, listAnswer, listed}
 
 -- ---- a line by its columns

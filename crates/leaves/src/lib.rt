@@ -3,7 +3,7 @@ ghost use mathlib.Core.Path.{_≡_};
 ghost use mathlib.Core.List.{List};
 ghost use Prim.Native.Nat.{ℕ, _≤_};
 ghost use lib.ListN.{length};
-ghost use Rattle.convert.specs.Run.{tableAfter};
+ghost use Rattle.runs.specs.Run.{tableAfter};
 ghost use Rattle.table.specs.Table.{sizeWord, typeAt};
 ghost use Rattle.sheet.specs.Sheet.{sheetOf};
 ghost use Rattle.sheet.specs.Sheet.Sheet.{ofType};
@@ -13,7 +13,7 @@ use crate::leaf::lines_len;
 use crate::leaf::put_list;
 use answer::Answer;
 use sheet::SheetRead;
-use sheet::read::read_sheet;
+use reading::read_sheet;
 use table::read::type_word;
 use table::store::clear;
 

@@ -1,24 +1,10 @@
 // The lines of a sheet, each read column by column at its place of the text.
-ghost use Rattle.line.specs.Read.{Reads, lineReading, kindReading, laterKind, plainLine};
-ghost use Rattle.text.specs.Place.{fieldAt};
+ghost use Rattle.line.specs.Read.{plainLine};
 ghost use mathlib.Core.Path.{_≡_};
-use crate::array::array_line;
-use crate::atomic::bits_line;
-use crate::atomic::int_line;
-use crate::kind::comp_line;
-use crate::kind::enum_line;
-use crate::kind::member_line;
-use crate::kind::value_line;
 use bits::Order;
 use layout::Layout;
 use layout::Pad;
-use text::field_end;
-use text::word_at;
 
-mod array;
-mod atomic;
-mod column;
-mod kind;
 
 // What a line says, and the place behind it. A value's number is its sign and its distance from 0, or from -1 where it is negative.
 pub enum Line {
@@ -44,88 +30,53 @@ pub struct ReadLine {
 }
 
 // What a column holds, and where it ends. Of a name also where it starts.
-enum NameColumn {
+pub enum NameColumn {
     Holds(usize, usize),
     Fault,
 }
 
-enum OrderColumn {
+pub enum OrderColumn {
     Holds(Order, usize),
     Fault,
 }
 
-enum PadColumn {
+pub enum PadColumn {
     Holds(Pad, usize),
     Fault,
 }
 
-enum SignColumn {
+pub enum SignColumn {
     Holds(bool, usize),
     Fault,
 }
 
 // Where the next line starts.
-enum Next {
+pub enum Next {
     At(usize),
     Fault,
 }
 
 // Size, order, offset and precision.
-enum PlaceColumns {
+pub enum PlaceColumns {
     Holds(u32, Order, u32, u32, usize),
     Fault,
 }
 
 // Lsb and msb.
-enum PadColumns {
+pub enum PadColumns {
     Holds(Pad, Pad, usize),
     Fault,
 }
 
 // All six, as an unsigned layout.
-enum LayoutColumns {
+pub enum LayoutColumns {
     Holds(Layout, usize),
     Fault,
 }
 
-fn plain(line: Line) -> ReadLine
+// A line that has no dimensions.
+pub fn plain(line: Line) -> ReadLine
     ensures { λ r. ⌜ r ≡ plainLine line ⌝ }
 {
     ReadLine { line, dims: [0; 4] }
-}
-
-// The line at a place, of a kind that read_line leaves, where the first word ended at q.
-fn later_line(s: &[u8], at: usize, q: usize) -> ReadLine
-    ensures { λ r. ⌜ Reads (now (s .entry)) r (kindReading (now (s .entry)) q (laterKind (fieldAt (now (s .entry)) at))) ⌝ }
-{
-    if word_at(s, at, b"comp") {
-        return plain(comp_line(s, q));
-    }
-    if word_at(s, at, b"member") {
-        return plain(member_line(s, q));
-    }
-    if word_at(s, at, b"array") {
-        return array_line(s, q);
-    }
-    plain(Line::Fault)
-}
-
-// The line at a place, up to its byte 10.
-pub fn read_line(s: &[u8], at: usize) -> ReadLine
-    ensures { λ r. ⌜ Reads (now (s .entry)) r (lineReading (now (s .entry)) at) ⌝ }
-{
-    let q = field_end(s, at);
-    if word_at(s, at, b"int") {
-        return plain(int_line(s, q));
-    }
-    if word_at(s, at, b"bits") {
-        return plain(bits_line(s, q));
-    }
-    if word_at(s, at, b"enum") {
-        return plain(enum_line(s, q));
-    }
-    if word_at(s, at, b"value") {
-        return plain(value_line(s, q));
-    }
-    later_line(s, at, q)
 }

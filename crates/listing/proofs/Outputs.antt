@@ -12,7 +12,7 @@ use Rattle.answer.specs.Answer.{numberOf, valuesOf}
 use Rattle.datatype.specs.Datatype.{Datatype}
 use Rattle.sheet.specs.Sheet.{Sheet, sheetOf}
 use Rattle.sheet.specs.Sheet.Sheet.{ofType, faultyAt}
-use Rattle.convert.specs.Run.{ifDone}
+use Rattle.runs.specs.Run.{ifDone}
 use Rattle.leaves.specs.LeafList.{leafList, listed, answerOf, listAfter}
 use Rattle.leaves.specs.Lines.{written, Wrote}
 use Rattle.leaves.proofs.Writing.{written-is}

@@ -1,9 +1,5 @@
 // n records, one after the other: copied, replaced in place, or searched for the first exception.
 pub mod bytes;
-pub mod copying;
-pub mod in_place;
-pub mod scan;
-mod single;
 
 // The first exception of all records: the record, the byte of the destination record, and the kind.
 pub enum Stop {

@@ -1,7 +1,7 @@
 -- What the proofs of several functions use, and the laws that callers' proofs cite.
-mod Shapes
-mod Rows
-mod LeafSteps
-mod Walks
-mod Turns
-mod Entries
+pub mod Shapes
+pub mod Rows
+pub mod LeafSteps
+pub mod Walks
+pub mod Turns
+pub mod Entries

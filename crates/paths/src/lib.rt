@@ -3,10 +3,7 @@
 // at a level; a plan takes one walk for each of at most 4,096 bytes. The members of a type do not overlap, so the question for a path meets at most
 // 4,096 pairs of types at a level.
 pub mod leaf;
-pub mod matches;
 pub mod numbers;
-pub mod path;
-pub mod plan;
 pub mod types;
 
 // One step down from a type at a byte: to an inner type at a byte of it; here, where the type is a leaf that starts at the byte; or no leaf starts there.

@@ -9,7 +9,7 @@ use crate::numbers::quotient;
 use table::Found;
 use table::read::row_word;
 use table::read::type_word;
-use table::rows::row_named;
+use row_lookup::row_named;
 
 // Byte b lies in the z bytes from offset on.
 fn inside(offset: usize, z: usize, b: usize) -> bool

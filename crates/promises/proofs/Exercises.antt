@@ -33,8 +33,8 @@ use Rattle.line.specs.Line as line
 use Rattle.sheet.specs.Sheet as sheet
 use Rattle.records.specs.Record as one
 use Rattle.records.specs.Records as many
-use Rattle.convert.specs.Run as runs
-use Rattle.convert.specs.Run.{Run, copyingRun, inPlaceRun, plain, answer, after}
+use Rattle.runs.specs.Run as runs
+use Rattle.runs.specs.Run.{Run, copyingRun, inPlaceRun, plain, answer, after}
 use Rattle.leaves.specs.LeafList as lists
 use Rattle.leaves.specs.LeafList.{answerOf, listAfter}
 

@@ -25,14 +25,14 @@ use Rattle.records.proofs.OneLeaf.{arrives}
 use Rattle.records.proofs.OneRecord.{converted-place, read-converted, reading-at, converted-keeps}
 use Rattle.records.proofs.ManyRecords.{record-length, in-none, converted-in, agree-readings, same-converted, same-bytes, returns-quiet, returns-same}
 use Rattle.records.proofs.Matched.{bits-agree, agree-bits}
-use Rattle.convert.specs.Run.{Form, Run, Checked, handled, result, checksOf, checks, answerFor, answer, after, cleared}
-use Rattle.convert.specs.Run.Form.{inPlace}
-use Rattle.convert.specs.Run.Checked.{refused, passed}
-use Rattle.convert.specs.Parts.{convertedBytes, clearedTail, zeros, laterBytes}
-use Rattle.convert.proofs.Checks.{done-is, stop-is, passed-tells, tells-passed, room-behind, refused-early, in-place-checks, table-long}
-use Rattle.convert.proofs.Exceptions.{handled-quiet, quiet-handled, handled-first, same-handled, handled-number, handled-count}
-use Rattle.convert.proofs.Buffers.{answer-refused, after-refused, answer-is, after-is, after-cases, result-none, result-converted, result-cleared, result-later, result-length}
-use Rattle.convert.proofs.Table.{cleared-zero, cleared-beyond, cleared-length, table-cases}
+use Rattle.runs.specs.Run.{Form, Run, Checked, handled, result, checksOf, checks, answerFor, answer, after, cleared}
+use Rattle.runs.specs.Run.Form.{inPlace}
+use Rattle.runs.specs.Run.Checked.{refused, passed}
+use Rattle.runs.specs.Parts.{convertedBytes, clearedTail, zeros, laterBytes}
+use Rattle.runs.proofs.Checks.{done-is, stop-is, passed-tells, tells-passed, room-behind, refused-early, in-place-checks, table-long}
+use Rattle.runs.proofs.Exceptions.{handled-quiet, quiet-handled, handled-first, same-handled, handled-number, handled-count}
+use Rattle.runs.proofs.Buffers.{answer-refused, after-refused, answer-is, after-is, after-cases, result-none, result-converted, result-cleared, result-later, result-length}
+use Rattle.runs.proofs.Table.{cleared-zero, cleared-beyond, cleared-length, table-cases}
 use Rattle.promises.specs.Promise.{answerNumber, answerFields, SameAnswer, IsDone, DoneWithoutException, RefusedBeforeStop, Types, before, SameCall, SameBackground, SameConverted, SameCleared, SameEffect, Demand3, OnSignificantBits, WayBack, Returned, fromCopy, AsFromCopy, becomes, recordOf, arrivedNumber, Arrived, Stopped, Uncovered, Kept, table, TableKept}
 
 -- ---- answers

@@ -20,10 +20,10 @@ use Rattle.records.specs.Leaf.{numberIn, converted}
 use Rattle.records.specs.Arrival.{standsFor, Arrives}
 use Rattle.records.specs.Records.{recordAt, readings, exceptions}
 use Rattle.records.specs.Matched.{MatchedLeaf, matchedNumber, Agree, Differ, SignificantBit, bitIn, SameSignificantBits}
-use Rattle.convert.specs.Run.{Run, hasRoom, answer, target, after, tableAfter}
-use Rattle.convert.specs.Run.Form.{copying}
-use Rattle.convert.specs.Parts.{convertedBytes, clearedTail, zeros, laterBytes}
-use Rattle.convert.specs.FirstException.{FirstException}
+use Rattle.runs.specs.Run.{Run, hasRoom, answer, target, after, tableAfter}
+use Rattle.runs.specs.Run.Form.{copying}
+use Rattle.runs.specs.Parts.{convertedBytes, clearedTail, zeros, laterBytes}
+use Rattle.runs.specs.FirstException.{FirstException}
 
 -- ---- a run's answer, and the types of its sheets
 

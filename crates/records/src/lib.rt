@@ -1,8 +1,4 @@
 // One record and n records, converted by a plan that is worked out once a call.
-pub mod leaf;
-pub mod names;
-pub mod record;
-pub mod words;
 
 // The words of one entry of the plan.
 pub struct PlanEntry {

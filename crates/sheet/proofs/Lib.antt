@@ -2,11 +2,11 @@
 pub mod ReadWellFormed
 pub mod FirstFault
 pub mod Numbered
-mod Added
-mod Lines
-mod Apart
-mod Totals
-mod Ranges
+pub mod Added
+pub mod Lines
+pub mod Apart
+pub mod Totals
+pub mod Ranges
 pub mod Turns
 pub mod Loop
 pub mod Types

@@ -1,9 +1,4 @@
 // Layout sheets: what a line adds to the types and rows in the working table.
-pub mod judge;
-pub mod member;
-pub mod product;
-pub mod read;
-pub mod value;
 
 // The types and rows after an accepted line; or the line is refused.
 pub enum Judged {

@@ -1,7 +1,7 @@
 -- `convert::copying::convert_planned` meets its contract. Assumes nothing.
 use native.Mathlib.Omega.{arith}
 use borrow.Author.Needs.{needs}
-use Rattle.convert.specs.Run.Form.{copying}
+use Rattle.runs.specs.Run.Form.{copying}
 use Rattle.convert.proofs.Parts.{clamps, stops-at, goes-on}
 use Rattle.convert.proofs.copying.convert_planned.Statement.{statement}
 use Rattle.convert.proofs.copying.convert_planned.Tie as tie

@@ -4,7 +4,7 @@ use denote.Ref.{now}
 use lib.ListN.{length}
 use borrow.Author.Needs.{needs}
 use Rattle.table.specs.Table.{typeAt}
-use Rattle.convert.specs.Run.Form.{copying}
+use Rattle.runs.specs.Run.Form.{copying}
 use Rattle.convert.proofs.Parts.{refuses, no-path, many, no-room, all-pass, denied, granted, product-fits, size-fits, copying-short, copying-small, copying-room}
 use Rattle.convert.proofs.copying.convert_typed.Statement.{statement}
 use Rattle.convert.proofs.copying.convert_typed.Tie as tie

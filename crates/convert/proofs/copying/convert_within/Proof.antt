@@ -1,6 +1,6 @@
 -- `convert::copying::convert_within` meets its contract. Assumes nothing.
 use borrow.Author.Needs.{needs}
-use Rattle.convert.specs.Run.Form.{copying}
+use Rattle.runs.specs.Run.Form.{copying}
 use Rattle.convert.proofs.Halves.{types-read, source-answer, destination-answer}
 use Rattle.convert.proofs.copying.convert_within.Statement.{statement}
 use Rattle.convert.proofs.copying.convert_within.Tie as tie

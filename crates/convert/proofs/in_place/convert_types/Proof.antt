@@ -3,7 +3,7 @@ use borrow.Author.Needs.{needs}
 use mathlib.Core.Path.{sym}
 use native.Mathlib.Omega.{arith}
 use lib.Seq.{length-take-le}
-use Rattle.convert.specs.Run.Form.{inPlace}
+use Rattle.runs.specs.Run.Form.{inPlace}
 use Rattle.convert.proofs.Halves.{types-both, types-leave}
 use Rattle.convert.proofs.in_place.convert_types.Statement.{statement}
 use Rattle.convert.proofs.in_place.convert_types.Tie as tie

@@ -1,0 +1,63 @@
+-- `judging::judge_member` meets its contract. Assumes nothing.
+use mathlib.Core.Path.{sym, _∙_}
+use borrow.Author.Needs.{needs}
+use Rattle.table.specs.Table.{bytesAt}
+use Rattle.sheet.proofs.Added.{refused}
+use Rattle.sheet.proofs.Lines.{member-judged, member-first, member-late, member-other, member-refused}
+use Rattle.judging.proofs.judge_member.Statement.{statement}
+use Rattle.judging.proofs.judge_member.Tie as tie
+
+returns : tie.Need-returns
+returns c =
+    let a = c .before .before .before .args in
+    refused (c .before .before .before .pre .0) (member-first (a .w .now) (a .t .now) _ (bytesAt (a .t .now) (a .start) (a .len)) (a .offset) (a .kind) (c .if1 .taken))
+
+returns-2 : tie.Need-returns-2
+returns-2 c =
+    let a = c .before .before .before .before .args in
+    refused (c .before .before .before .before .pre .0)
+    (member-late (a .n) (a .t .now) (bytesAt (a .t .now) (a .start) (a .len)) (a .offset) (a .kind) (c .before .before .before .before .pre .0) (c .before .if1 .left) (c .if2 .taken))
+
+returns-3 : tie.Need-returns-3
+returns-3 c =
+    let a = c .before .before .before .before .before .before .before .args in
+    refused (c .before .before .before .before .before .before .before .pre .0)
+    (member-other (a .n) (a .t .now) (bytesAt (a .t .now) (a .start) (a .len)) (a .offset) (a .kind) (c .before .before .before .before .before .before .before .pre .0) (c .before .before .before .before .if1 .left) (c .before .before .before .if2 .left)
+    (λ e. c .if3 .taken (c .before .type-word .ensures .is ∙ e)))
+
+returns-4 : tie.Need-returns-4
+returns-4 c =
+    let a = c .before .before .before .before .before .before .before .before .before .before .before .before .args in
+    refused (c .before .before .before .before .before .before .before .before .before .before .before .before .pre .0)
+    (member-refused (a .n) (a .t .now) (bytesAt (a .t .now) (a .start) (a .len)) (a .offset) (a .kind) (c .before .before .before .before .before .before .before .before .before .before .before .before .pre .0) (c .before .before .before .before .before .before .before .before .before .if1 .left) (c .before .before .before .before .before .before .before .before .if2 .left)
+    (sym (c .before .before .before .before .before .before .type-word .ensures .is) ∙ c .before .before .before .before .before .if3 .left) (c .before .before .before .type-word2 .ensures .is) (c .before .may-place .ensures) (c .if4 .taken))
+
+returns-5 : tie.Need-returns-5
+returns-5 c =
+    let a = c .before .before .before .before .before .before .before .before .before .before .before .before .before .before .before .before .before .args in
+    member-judged (a .n) (a .t .now) (a .start) (a .len) (a .offset) (a .kind) (c .before .before .before .before .before .before .before .before .before .before .before .before .before .before .before .before .before .pre .0) (c .before .before .before .before .before .before .before .before .before .before .before .before .before .before .if1 .left) (c .before .before .before .before .before .before .before .before .before .before .before .before .before .if2 .left)
+    (sym (c .before .before .before .before .before .before .before .before .before .before .before .type-word .ensures .is) ∙ c .before .before .before .before .before .before .before .before .before .before .if3 .left) (c .before .before .before .before .before .before .before .before .type-word2 .ensures .is) (c .before .before .before .before .before .before .may-place .ensures) (c .before .before .before .before .before .if4 .left)
+    (c .before .before .before .before .member-record .ensures) (c .before .before .next-row .ensures)
+
+pub judge-member-spec : {M : Type 1} → statement M
+judge-member-spec =
+    tie.close
+    (tie.spec
+    returns
+    (λ c. search needs)
+    returns-2
+    (λ c. search needs)
+    (λ c. search needs)
+    (λ c κs. search needs)
+    (λ c. search needs)
+    returns-3
+    (λ c κs. search needs)
+    (λ c κs. search needs)
+    (λ c. search needs)
+    returns-4
+    (λ c. search needs)
+    (λ c. search needs)
+    (λ c κs. search needs)
+    (λ c κs. search needs)
+    (λ c. search needs)
+    returns-5)

@@ -1,0 +1,55 @@
+-- `judging::judge_value` meets its contract. Assumes nothing.
+use mathlib.Core.Path.{sym, _∙_}
+use borrow.Author.Needs.{needs}
+use Rattle.table.specs.Table.{bytesAt}
+use Rattle.number.specs.Parts.{signedBy}
+use Rattle.sheet.proofs.Added.{refused}
+use Rattle.sheet.proofs.Lines.{value-judged, value-first, value-other, value-refused}
+use Rattle.judging.proofs.judge_value.Statement.{statement}
+use Rattle.judging.proofs.judge_value.Tie as tie
+
+returns : tie.Need-returns
+returns c =
+    let a = c .before .before .before .args in
+    refused (c .before .before .before .pre .0) (value-first (a .w .now) (a .t .now) _ (bytesAt (a .t .now) (a .start) (a .len)) (signedBy (a .negative) (a .distance)) (c .if1 .taken))
+
+returns-2 : tie.Need-returns-2
+returns-2 c =
+    let a = c .before .before .before .before .before .before .args in
+    refused (c .before .before .before .before .before .before .pre .0)
+    (value-other (a .n) (a .t .now) (bytesAt (a .t .now) (a .start) (a .len)) (signedBy (a .negative) (a .distance)) (c .before .before .before .before .before .before .pre .0) (c .before .before .before .if1 .left)
+    (λ e. c .if2 .taken (c .before .type-word .ensures .is ∙ e)))
+
+returns-3 : tie.Need-returns-3
+returns-3 c =
+    let a = c .before .before .before .before .before .before .before .before .before .args in
+    refused (c .before .before .before .before .before .before .before .before .before .pre .0)
+    (value-refused (a .n) (a .t .now) (bytesAt (a .t .now) (a .start) (a .len)) (signedBy (a .negative) (a .distance)) (c .before .before .before .before .before .before .before .before .before .pre .0) (c .before .before .before .before .before .before .if1 .left)
+    (sym (c .before .before .before .before .type-word .ensures .is) ∙ c .before .before .before .if2 .left) (c .before .may-list .ensures) (c .if3 .taken))
+
+returns-4 : tie.Need-returns-4
+returns-4 c =
+    let a = c .before .before .before .before .before .before .before .before .before .before .before .before .before .before .args in
+    value-judged (a .n) (a .t .now) (a .start) (a .len) (a .negative) (a .distance) (c .before .before .before .before .before .before .before .before .before .before .before .before .before .before .pre .0) (c .before .before .before .before .before .before .before .before .before .before .before .if1 .left)
+    (sym (c .before .before .before .before .before .before .before .before .before .type-word .ensures .is) ∙ c .before .before .before .before .before .before .before .before .if2 .left) (c .before .before .before .before .before .before .may-list .ensures) (c .before .before .before .before .before .if3 .left)
+    (c .before .before .before .before .value-record .ensures) (c .before .before .next-row .ensures)
+
+pub judge-value-spec : {M : Type 1} → statement M
+judge-value-spec =
+    tie.close
+    (tie.spec
+    returns
+    (λ c. search needs)
+    (λ c. search needs)
+    (λ c κs. search needs)
+    (λ c. search needs)
+    returns-2
+    (λ c κs. search needs)
+    (λ c. search needs)
+    returns-3
+    (λ c. search needs)
+    (λ c. search needs)
+    (λ c κs. search needs)
+    (λ c κs. search needs)
+    (λ c. search needs)
+    returns-4)

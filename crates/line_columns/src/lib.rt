@@ -1,0 +1,117 @@
+// A column of a line: its tab stands at q, where the field before it ended.
+ghost use mathlib.Core.Path.{_≡_};
+ghost use Rattle.text.specs.Field.{number, name};
+ghost use Rattle.line.specs.Line.{order, pad, sign};
+ghost use Rattle.line.specs.Column.{columnAt, nextAt, wholeNumber, foundNumber, foundWhole, foundName, foundOrder, foundPad, foundSign};
+use line::NameColumn;
+use line::Next;
+use line::OrderColumn;
+use line::PadColumn;
+use line::SignColumn;
+use bits::Order;
+use layout::Pad;
+use text::Field;
+use text::Name;
+use text::Whole;
+use text::field_end;
+use text::is_newline;
+use text::is_tab;
+use text::name_at;
+use text::number_at;
+use text::whole_at;
+use text::word_at;
+
+// The line ends where its last field ended: at its byte 10.
+pub fn next_line(s: &[u8], q: usize) -> Next
+    ensures { λ r. ⌜ r ≡ nextAt (now (s .entry)) q ⌝ }
+{
+    if !is_newline(s, q) {
+        return Next::Fault;
+    }
+    Next::At(q + 1)
+}
+
+pub fn number_column(s: &[u8], q: usize) -> Field
+    ensures { λ r. ⌜ foundNumber r ≡ columnAt number (now (s .entry)) q ⌝ }
+{
+    if !is_tab(s, q) {
+        return Field::Fault;
+    }
+    number_at(s, q + 1)
+}
+
+pub fn whole_column(s: &[u8], q: usize) -> Whole
+    ensures { λ r. ⌜ foundWhole r ≡ columnAt wholeNumber (now (s .entry)) q ⌝ }
+{
+    if !is_tab(s, q) {
+        return Whole::Fault;
+    }
+    whole_at(s, q + 1)
+}
+
+pub fn name_column(s: &[u8], q: usize) -> NameColumn
+    ensures { λ r. ⌜ foundName (now (s .entry)) r ≡ columnAt name (now (s .entry)) q ⌝ }
+{
+    if !is_tab(s, q) {
+        return NameColumn::Fault;
+    }
+    let at = q + 1;
+    let Name::Text(end) = name_at(s, at) else {
+        return NameColumn::Fault;
+    };
+    NameColumn::Holds(at, end)
+}
+
+pub fn order_column(s: &[u8], q: usize) -> OrderColumn
+    ensures { λ r. ⌜ foundOrder r ≡ columnAt order (now (s .entry)) q ⌝ }
+{
+    if !is_tab(s, q) {
+        return OrderColumn::Fault;
+    }
+    let at = q + 1;
+    let end = field_end(s, at);
+    if word_at(s, at, b"LE") {
+        return OrderColumn::Holds(Order::LE, end);
+    }
+    if word_at(s, at, b"BE") {
+        return OrderColumn::Holds(Order::BE, end);
+    }
+    OrderColumn::Fault
+}
+
+pub fn pad_column(s: &[u8], q: usize) -> PadColumn
+    ensures { λ r. ⌜ foundPad r ≡ columnAt pad (now (s .entry)) q ⌝ }
+{
+    if !is_tab(s, q) {
+        return PadColumn::Fault;
+    }
+    let at = q + 1;
+    let end = field_end(s, at);
+    if word_at(s, at, b"zero") {
+        return PadColumn::Holds(Pad::Zero, end);
+    }
+    if word_at(s, at, b"one") {
+        return PadColumn::Holds(Pad::One, end);
+    }
+    if word_at(s, at, b"keep") {
+        return PadColumn::Holds(Pad::Keep, end);
+    }
+    PadColumn::Fault
+}
+
+pub fn sign_column(s: &[u8], q: usize) -> SignColumn
+    ensures { λ r. ⌜ foundSign r ≡ columnAt sign (now (s .entry)) q ⌝ }
+{
+    if !is_tab(s, q) {
+        return SignColumn::Fault;
+    }
+    let at = q + 1;
+    let end = field_end(s, at);
+    if word_at(s, at, b"signed") {
+        return SignColumn::Holds(true, end);
+    }
+    if word_at(s, at, b"unsigned") {
+        return SignColumn::Holds(false, end);
+    }
+    SignColumn::Fault
+}

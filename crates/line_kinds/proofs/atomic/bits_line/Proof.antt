@@ -1,0 +1,18 @@
+-- `line_kinds::atomic::bits_line` meets its contract. Assumes nothing.
+use Rattle.line.proofs.Readings.{line-laws}
+use Rattle.line_kinds.proofs.atomic.bits_line.Statement.{statement}
+use Rattle.line_kinds.proofs.atomic.bits_line.Tie as tie
+
+pub bits-line-spec : {M : Type 1} → statement M
+bits-line-spec =
+    tie.close
+    (tie.spec
+    (λ c κs. search line-laws depth 12)
+    (λ c. search line-laws depth 12)
+    (λ c. search line-laws depth 12)
+    (λ c. search line-laws depth 12)
+    (λ c κs. search line-laws depth 12)
+    (λ c. search line-laws depth 12)
+    (λ c. search line-laws depth 12)
+    (λ c. search line-laws depth 12)
+    (λ c. search line-laws depth 12))

@@ -1,0 +1,134 @@
+// Which source leaf the leaf at a byte of a destination type is matched with.
+ghost use mathlib.Core.Path.{_≡_};
+ghost use mathlib.Core.List.{List};
+ghost use Prim.Native.Nat.{ℕ};
+ghost use Rattle.datatype.specs.WellFormed.{WellFormed};
+ghost use Rattle.table.specs.Table.{typeAt};
+ghost use Rattle.paths.specs.Leaf.{MatchFound};
+ghost use Rattle.paths.specs.Steps.{kindAt, Leads, LeadsIn};
+use paths::Pair;
+use paths::Walk;
+use paths::numbers::minus;
+use paths::numbers::quotient;
+use paths::numbers::remainder;
+use paths::types::count_at;
+use paths::types::kind_at;
+use paths::types::row_of_name;
+use paths::types::row_over;
+use table::Found;
+use table::read::row_word;
+use table::read::type_word;
+
+// From the destination's row j, at byte b of its compound, into the source compound s.
+fn match_named(ws: &[u32], ts: &[u8], s: usize, wd: &[u32], td: &[u8], j: usize, b: usize) -> Walk
+    requires { ⌜ kindAt (now ws) s ≡ 3 ⌝ }
+    ensures { λ r. ⌜ LeadsIn (now (ws .entry)) (now (ts .entry)) s (now (wd .entry)) (now (td .entry)) j b r ⌝ }
+{
+    match row_of_name(ws, ts, s, wd, td, j) {
+        Found::At(m) => {
+            let from = row_word(ws, m, 2);
+            let k = row_word(ws, m, 3);
+            let l = row_word(wd, j, 3);
+            let offset = row_word(wd, j, 2);
+            Walk::On(from, k, l, minus(b, offset))
+        }
+        Found::Missing => Walk::Off,
+    }
+}
+
+// Between the compounds s and d.
+fn match_compound(
+    ws: &[u32],
+    ts: &[u8],
+    s: usize,
+    wd: &[u32],
+    td: &[u8],
+    d: usize,
+    b: usize,
+) -> Walk
+    requires { ⌜ (kindAt (now ws) s ≡ 3) × (kindAt (now wd) d ≡ 3) ⌝ }
+    ensures { λ r. ⌜ Leads (now (ws .entry)) (now (ts .entry)) s (now (wd .entry)) (now (td .entry)) d b r ⌝ }
+{
+    let first = type_word(wd, d, 9);
+    let n = type_word(wd, d, 10);
+    match row_over(wd, first, n, b) {
+        Found::At(j) => match_named(ws, ts, s, wd, td, j, b),
+        Found::Missing => Walk::Off,
+    }
+}
+
+// Between the arrays s and d.
+fn match_array(ws: &[u32], s: usize, wd: &[u32], d: usize, b: usize) -> Walk
+    requires { ⌜ (kindAt (now ws) s ≡ 4) × (kindAt (now wd) d ≡ 4) ⌝ }
+    ensures { λ r. ⌜ ((ts td : List ℕ) → Leads (now (ws .entry)) ts s (now (wd .entry)) td d b r) ⌝ }
+{
+    if count_at(ws, s) != count_at(wd, d) {
+        return Walk::Off;
+    }
+    let z = type_word(wd, d, 1);
+    let l = type_word(wd, d, 8);
+    let y = type_word(wd, l, 1);
+    let k = type_word(ws, s, 8);
+    let x = type_word(ws, k, 1);
+    if b < z {
+        Walk::On(quotient(b, y) * x, k, l, remainder(b, y))
+    } else {
+        Walk::Off
+    }
+}
+
+fn match_step(ws: &[u32], ts: &[u8], s: usize, wd: &[u32], td: &[u8], d: usize, b: usize) -> Walk
+    ensures { λ r. ⌜ Leads (now (ws .entry)) (now (ts .entry)) s (now (wd .entry)) (now (td .entry)) d b r ⌝ }
+{
+    let from = kind_at(ws, s);
+    let to = kind_at(wd, d);
+    if to == 3 {
+        if from == 3 {
+            match_compound(ws, ts, s, wd, td, d, b)
+        } else {
+            Walk::Off
+        }
+    } else if to == 4 {
+        if from == 4 {
+            match_array(ws, s, wd, d, b)
+        } else {
+            Walk::Off
+        }
+    } else if b != 0 {
+        Walk::Off
+    } else if 3 <= from {
+        Walk::Off
+    } else {
+        Walk::Same
+    }
+}
+
+// The match of the leaf that starts at byte b of the destination type k, in the source type i.
+pub fn match_at(ws: &[u32], ts: &[u8], i: usize, wd: &[u32], td: &[u8], k: usize, b: usize) -> Pair
+    requires { ⌜ WellFormed (typeAt (now ws) (now ts) i) × WellFormed (typeAt (now wd) (now td) k) ⌝ }
+    ensures { λ r. ⌜ MatchFound (now (ws .entry)) (now (ts .entry)) i (now (wd .entry)) (now (td .entry)) k b r ⌝ }
+{
+    let mut s = i;
+    let mut d = k;
+    let mut at = b;
+    let mut from: usize = 0;
+    let mut left: usize = 64;
+    while 0 < left {
+        match match_step(ws, ts, s, wd, td, d, at) {
+            Walk::On(further, source, destination, byte) => {
+                from += further;
+                s = source;
+                d = destination;
+                at = byte;
+            }
+            Walk::Same => {
+                return Pair::Matched(from, s, d);
+            }
+            Walk::Off => {
+                return Pair::Unmatched;
+            }
+        }
+        left -= 1;
+    }
+    Pair::Unmatched
+}

@@ -1,0 +1,18 @@
+-- `name_compare::has_name` meets its contract. Assumes nothing.
+use Prim.Native.Nat.{ℕ}
+use mathlib.Core.Path.{_≡_, ap₂, _∙_}
+use denote.Ref.{now}
+use borrow.Author.Needs.{needs}
+use Rattle.datatype.specs.Datatype.{same}
+use Rattle.table.specs.Table.{bytesAt}
+use Rattle.name_compare.proofs.has_name.Statement.{statement}
+use Rattle.name_compare.proofs.has_name.Tie as tie
+
+returns : tie.Need-returns
+returns c =
+    let a = c .before .before .before .before .before .before .args in
+    c .same-name .ensures
+    ∙ ap₂ (λ (s n : ℕ). same (bytesAt (now (a .x)) (a .start) (a .len)) (bytesAt (now (a .t)) s n)) (c .before .before .row-word .ensures .is) (c .before .row-word2 .ensures .is)
+
+pub has-name-spec : {M : Type 1} → statement M
+has-name-spec = tie.close (tie.spec (λ c κs. search needs) (λ c κs. search needs) (λ c κs. search needs) returns)

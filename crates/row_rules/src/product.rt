@@ -1,0 +1,30 @@
+// The size of an array.
+ghost use mathlib.Core.Path.{_≡_};
+ghost use Prim.Native.Nat.{_<_};
+ghost use Rattle.sheet.specs.Steps.{totalOf};
+use sheet::Total;
+
+// The dimensions' product times size, factor by factor, so that nothing wraps. A dimension of 0 ends them.
+pub fn total(dims: [u32; 4], size: usize) -> Total
+    requires { ⌜ size < 4294967296 ⌝ }
+    ensures { λ r. ⌜ r ≡ totalOf dims size ⌝ }
+{
+    let mut p = size;
+    let mut q: usize = 0;
+    while q < 4 {
+        let d = dims[q] as usize;
+        if 4096 < p {
+            return Total::TooMany;
+        }
+        if d == 0 {
+            return Total::Bytes(p as u32);
+        }
+        p *= d;
+        q += 1;
+    }
+    if 4096 < p {
+        Total::TooMany
+    } else {
+        Total::Bytes(p as u32)
+    }
+}

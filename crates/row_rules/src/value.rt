@@ -1,0 +1,75 @@
+// Whether an enum may have a value more.
+ghost use mathlib.Core.Path.{_≡_};
+ghost use Prim.Native.Nat.{_-_, _^_, _<_};
+ghost use lib.Dec.{leb, eqb};
+ghost use Rattle.number.specs.Number.{fitted};
+ghost use Rattle.number.specs.Parts.{signedBy};
+ghost use Rattle.table.specs.Table.{layoutAt, bytesAt, symbolsAt, firstWord, rowsWord};
+ghost use Rattle.sheet.specs.Sheet.{mayList};
+ghost use Rattle.sheet.specs.Steps.{isMissing};
+use bits::shift::ones;
+use layout::Layout;
+use table::Found;
+use table::read::layout_at;
+use table::read::type_word;
+use row_lookup::row_named;
+use row_lookup::row_numbered;
+
+pub fn is_missing(f: Found) -> bool
+    ensures { λ r. ⌜ r ≡ isMissing f ⌝ }
+{
+    match f {
+        Found::At(_) => false,
+        Found::Missing => true,
+    }
+}
+
+// d is a number of p bits.
+fn fits_in(d: u64, p: u32) -> bool
+    ensures { λ r. ⌜ r ≡ leb d (2 ^ p - 1) ⌝ }
+{
+    if 64 < p { true } else { d <= ones(p) }
+}
+
+fn minus_one(p: u32) -> u32
+    ensures { λ r. ⌜ r ≡ p - 1 ⌝ }
+{
+    if p == 0 { 0 } else { p - 1 }
+}
+
+// The number is in l's range.
+pub fn in_range(l: Layout, negative: bool, distance: u64) -> bool
+    ensures { λ r. ⌜ r ≡ eqb (fitted l (signedBy negative distance) .kind) 0 ⌝ }
+{
+    if l.signed {
+        return fits_in(distance, minus_one(l.precision));
+    }
+    if negative {
+        return false;
+    }
+    fits_in(distance, l.precision)
+}
+
+// The enum i may have a value of this name and number.
+pub fn may_list(
+    w: &[u32],
+    t: &[u8],
+    i: usize,
+    start: usize,
+    len: usize,
+    negative: bool,
+    distance: u64,
+) -> bool
+    requires { ⌜ (start < 4294967296) × (len < 4294967296) ⌝ }
+    ensures { λ r. ⌜ r ≡ mayList (layoutAt (now (w .entry)) i) (symbolsAt (now (w .entry)) (now (t .entry)) (firstWord (now (w .entry)) i) (rowsWord (now (w .entry)) i)) (bytesAt (now (t .entry)) start len) (signedBy negative distance) ⌝ }
+{
+    let first = type_word(w, i, 9);
+    let rows = type_word(w, i, 10);
+    if !is_missing(row_named(w, t, first, rows, t, start, len)) {
+        return false;
+    }
+    if !is_missing(row_numbered(w, first, rows, negative, distance)) {
+        return false;
+    }
+    in_range(layout_at(w, i), negative, distance)
+}

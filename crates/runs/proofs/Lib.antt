@@ -1,0 +1,4 @@
+pub mod Checks
+pub mod Exceptions
+pub mod Buffers
+pub mod Table

@@ -1,0 +1,53 @@
+-- The working table after a call. Assumes nothing.
+use mathlib.Core.Path.{_≡_, refl}
+use mathlib.Core.Logic.{_⊎_, inl, inr}
+use mathlib.Core.List.{List, _++_}
+use Prim.Native.Nat.{ℕ, _≤_}
+use native.Mathlib.Omega.{arith}
+use lib.ListN.{length, take, drop, replicate, length-append, length-drop, length-replicate}
+use lib.Seq.{take-at, drop-at}
+use Rattle.answer.specs.declared.Answer.{Answer}
+use Rattle.answer.specs.declared.Answer.the-variants.{Done, Handling, Table, Source, Destination, Path, Count, Room, Stop, Range}
+use Rattle.answer.specs.Answer.{numberOf}
+use Rattle.runs.specs.Run.{cleared, tableAfter}
+
+-- ---- n words cleared
+
+module _ (n : ℕ) (t : List ℕ) where
+  front-zero : take n (replicate n 0 ++ drop n t) ≡ replicate n 0
+  front-zero = take-at (replicate n 0) (drop n t) n (length-replicate n 0)
+
+  same-beyond : drop n (replicate n 0 ++ drop n t) ≡ drop n t
+  same-beyond = drop-at (replicate n 0) (drop n t) n (length-replicate n 0)
+
+  same-length : n ≤ length t → length (replicate n 0 ++ drop n t) ≡ length t
+  same-length h = rw (length-append, length-replicate, length-drop) (omega arith)
+
+module _ (t : List ℕ) where
+  pub cleared-zero : take 8192 (cleared t) ≡ replicate 8192 0
+  unfolding cleared
+  cleared-zero = front-zero 8192 t
+
+  pub cleared-beyond : drop 8192 (cleared t) ≡ drop 8192 t
+  unfolding cleared
+  cleared-beyond = same-beyond 8192 t
+
+  pub cleared-length : 8192 ≤ length t → length (cleared t) ≡ length t
+  unfolding cleared
+  cleared-length h = same-length 8192 t h
+
+-- ---- after which answers
+
+-- refused by check 1 or 2, or cleared
+pub table-cases : (a : Answer) (t : List ℕ)
+    → (((numberOf a ≡ 1) ⊎ (numberOf a ≡ 2)) × (tableAfter a t ≡ t)) ⊎ (((numberOf a ≡ 0) ⊎ (3 ≤ numberOf a)) × (tableAfter a t ≡ cleared t))
+table-cases (Done count) t = inr (inl refl, refl)
+table-cases Handling t = inl (inl refl, refl)
+table-cases Table t = inl (inr refl, refl)
+table-cases (Source line) t = inr (inr (omega arith), refl)
+table-cases (Destination line) t = inr (inr (omega arith), refl)
+table-cases Path t = inr (inr (omega arith), refl)
+table-cases Count t = inr (inr (omega arith), refl)
+table-cases Room t = inr (inr (omega arith), refl)
+table-cases (Stop i at kind) t = inr (inr (omega arith), refl)
+table-cases Range t = inr (inr (omega arith), refl)

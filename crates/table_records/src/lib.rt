@@ -1,0 +1,102 @@
+// The records of types and rows, as they are stored. Each type's record has the number of its first row, also where it has no rows.
+ghost use mathlib.Core.Path.{_≡_};
+ghost use Prim.Native.Nat.{_<_};
+ghost use Rattle.table.specs.Records.{layoutRecord, atomicRecord, enumRecord, compoundRecord, arrayRecord, valueRecord, memberRecord};
+use table::codes::class_code;
+use table::codes::flag_code;
+use table::codes::order_code;
+use table::codes::pad_code;
+use layout::Layout;
+
+fn layout_record(class: u32, l: Layout, first: u32) -> [u32; 16]
+    requires { ⌜ l .size .0 < 4294967296 ⌝ }
+    ensures { λ r. ⌜ r ≡ layoutRecord class l first ⌝ }
+{
+    let o = l.order;
+    let a = l.lsb;
+    let b = l.msb;
+    let size = l.size.0 as u32;
+    let order = order_code(o);
+    let lsb = pad_code(a);
+    let msb = pad_code(b);
+    let signed = flag_code(l.signed);
+    [
+        class,
+        size,
+        order,
+        l.offset.0,
+        l.precision,
+        lsb,
+        msb,
+        signed,
+        0,
+        first,
+        0,
+        0,
+        0,
+        0,
+        0,
+        0,
+    ]
+}
+
+pub fn atomic_record(l: Layout, first: u32) -> [u32; 16]
+    requires { ⌜ l .size .0 < 4294967296 ⌝ }
+    ensures { λ r. ⌜ r ≡ atomicRecord l first ⌝ }
+{
+    let class = l.class;
+    layout_record(class_code(class), l, first)
+}
+
+// An enum without values.
+pub fn enum_record(l: Layout, first: u32) -> [u32; 16]
+    requires { ⌜ l .size .0 < 4294967296 ⌝ }
+    ensures { λ r. ⌜ r ≡ enumRecord l first ⌝ }
+{
+    layout_record(2, l, first)
+}
+
+// A compound without members.
+pub fn compound_record(size: u32, first: u32) -> [u32; 16]
+    ensures { λ r. ⌜ r ≡ compoundRecord size first ⌝ }
+{
+    [3, size, 0, 0, 0, 0, 0, 0, 0, first, 0, 0, 0, 0, 0, 0]
+}
+
+pub fn array_record(size: u32, base: u32, first: u32, dims: [u32; 4]) -> [u32; 16]
+    ensures { λ r. ⌜ r ≡ arrayRecord size base first dims ⌝ }
+{
+    [
+        4,
+        size,
+        0,
+        0,
+        0,
+        0,
+        0,
+        0,
+        base,
+        first,
+        0,
+        dims[0],
+        dims[1],
+        dims[2],
+        dims[3],
+        0,
+    ]
+}
+
+pub fn value_record(start: u32, len: u32, negative: bool, distance: u64) -> [u32; 8]
+    ensures { λ r. ⌜ r ≡ valueRecord start len negative distance ⌝ }
+{
+    let sign = flag_code(negative);
+    let low = (distance % 4294967296) as u32;
+    let high = (distance / 4294967296) as u32;
+    [start, len, sign, low, high, 0, 0, 0]
+}
+
+pub fn member_record(start: u32, len: u32, offset: u32, kind: u32) -> [u32; 8]
+    ensures { λ r. ⌜ r ≡ memberRecord start len offset kind ⌝ }
+{
+    [start, len, offset, kind, 0, 0, 0, 0]
+}
