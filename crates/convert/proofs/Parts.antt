@@ -25,8 +25,8 @@ use Rattle.records.specs.Record.{reading, kindAt, firstRaising}
 use Rattle.records.specs.Records.{recordAt, readings, exceptions}
 use Rattle.records.specs.Plan.{planOf, Raised, firstBy}
 use Rattle.records.specs.Plan.Raised.{nowhere, at}
-use Rattle.records.specs.PlanWords.{Job, Translates, planWord}
-use Rattle.records.specs.PlanEntries.{NumbersPut, EntriesPut}
+use Rattle.plans.specs.PlanWords.{Job, Translates, planWord}
+use Rattle.plans.specs.PlanEntries.{NumbersPut, EntriesPut}
 use Rattle.records.proofs.Plans.{plan-first}
 use Rattle.paths.specs.Plan.{Planned}
 use Rattle.loops.specs.declared.Stop.{Stop}

@@ -2,7 +2,7 @@
 ghost use mathlib.Core.Path.{_≡_};
 ghost use Prim.Native.Nat.{_*_, _≤_};
 ghost use lib.ListN.{length};
-ghost use Rattle.records.specs.PlanWords.{Job};
+ghost use Rattle.plans.specs.PlanWords.{Job};
 ghost use Rattle.table.specs.Table.{typeAt};
 ghost use Rattle.runs.specs.Run.{typeChecks, sheetChecks};
 ghost use Rattle.runs.specs.Run.Checked.{passed};

@@ -3,7 +3,7 @@ ghost use mathlib.Core.Path.{_≡_};
 ghost use Prim.Native.Nat.{_*_, _≤_};
 ghost use lib.ListN.{length};
 ghost use Rattle.records.specs.Records.{readings, exceptions, copyResult};
-ghost use Rattle.records.specs.PlanWords.{Job};
+ghost use Rattle.plans.specs.PlanWords.{Job};
 use single_loop::copy_single;
 use one_record::write_record;
 

@@ -3,7 +3,7 @@ ghost use mathlib.Core.Path.{_≡_};
 ghost use Prim.Native.Nat.{_+_, _*_, _≤_};
 ghost use lib.ListN.{length, take, drop};
 ghost use Rattle.records.specs.Records.{readings, exceptions, inPlaceResult};
-ghost use Rattle.records.specs.PlanWords.{Job};
+ghost use Rattle.plans.specs.PlanWords.{Job};
 ghost use Rattle.loops.specs.Steps.{put, recordBy, raisedOf};
 use loops::bytes::clear_bytes;
 use loops::bytes::copy_bytes;

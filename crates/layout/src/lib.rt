@@ -41,7 +41,7 @@ pub struct Edited {
 }
 
 // A size of 1 to 8 bytes, and a precision of 1 to 64 bits.
-fn size_allowed(size: ByteAt) -> bool
+pub fn size_allowed(size: ByteAt) -> bool
     ensures { λ r. ⌜ r ≡ (leb 1 (size .0) && leb (size .0) 8) ⌝ }
 {
     if size.0 < 1 {
@@ -50,7 +50,7 @@ fn size_allowed(size: ByteAt) -> bool
     size.0 <= 8
 }
 
-fn precision_allowed(precision: u32) -> bool
+pub fn precision_allowed(precision: u32) -> bool
     ensures { λ r. ⌜ r ≡ (leb 1 precision && leb precision 64) ⌝ }
 {
     if precision < 1 {
@@ -60,7 +60,7 @@ fn precision_allowed(precision: u32) -> bool
 }
 
 // Whether precision bits from offset on lie within size bytes. The precision is tested first, so that no difference wraps.
-fn fits(offset: BitAt, precision: u32, size: ByteAt) -> bool
+pub fn fits(offset: BitAt, precision: u32, size: ByteAt) -> bool
     requires { ⌜ size .0 ≤ 8 ⌝ }
     ensures { λ r. ⌜ r ≡ leb (offset .0 + precision) (8 * size .0) ⌝ }
 {

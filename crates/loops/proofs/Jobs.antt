@@ -7,11 +7,11 @@ use native.Mathlib.Omega.{arith}
 use lib.ListN.{length, take, drop}
 use Rattle.datatype.specs.Datatype.{Datatype, size}
 use Rattle.datatype.proofs.Matches.{size-most}
-use Rattle.records.specs.declared.Raising.{Raising}
+use Rattle.plans.specs.declared.Raising.{Raising}
 use Rattle.records.specs.Record.{Reading, reading, kindAt, raises, raisedBelow}
 use Rattle.records.specs.Plan.{planOf, written, raisedBy, firstBy, AllSound}
-use Rattle.records.specs.PlanWords.{entriesAt, Ready, entriesOf, Job}
-use Rattle.records.specs.PlanEntries.{raisingOf}
+use Rattle.plans.specs.PlanWords.{entriesAt, Ready, entriesOf, Job}
+use Rattle.plans.specs.PlanEntries.{raisingOf}
 use Rattle.records.proofs.Plans.{plan-written, plan-raised, plan-sound}
 use Rattle.loops.specs.Steps.{recordBy, raisedOf}
 use Rattle.easy.proofs.Lent.{tail-lent, lent-room}

@@ -13,7 +13,7 @@ use Rattle.datatype.specs.WellFormed.{WellFormed}
 use Rattle.records.specs.Record.{reading, convertedRecord, raisedBelow}
 use Rattle.records.specs.Records.{readings, exceptions, inPlaceResult}
 use Rattle.records.specs.Plan.{written, raisedBy}
-use Rattle.records.specs.PlanWords.{Ready, entriesOf, Job}
+use Rattle.plans.specs.PlanWords.{Ready, entriesOf, Job}
 use Rattle.easy.proofs.Lent.{tail-lent}
 use Rattle.loops.specs.Steps.{put, recordBy, raisedOf}
 use Rattle.loops.proofs.Lists.{row-within, row-next, lent-front, drop-agree, take-agree, part-agree, put-length, put-take, put-drop, put-here, put-put, put-up, put-down}

@@ -3,12 +3,12 @@ use mathlib.Core.Path.{_≡_, refl, sym, _∙_}
 use mathlib.Core.List.{List}
 use Prim.Native.Nat.{ℕ, suc, _+_, _-_, _≤_, _<_}
 use native.Mathlib.Omega.{arith}
-use Rattle.records.specs.declared.Raising.{Raising}
-use Rattle.records.specs.declared.Raising.the-variants as raising
+use Rattle.plans.specs.declared.Raising.{Raising}
+use Rattle.plans.specs.declared.Raising.the-variants as raising
 use Rattle.records.specs.Records.{recordAt}
 use Rattle.records.specs.Plan.{Entry, Raised, firstBy}
 use Rattle.records.specs.Plan.Raised.{nowhere, at}
-use Rattle.records.specs.PlanEntries.{raisingOf}
+use Rattle.plans.specs.PlanEntries.{raisingOf}
 use Rattle.loops.specs.declared.Stop.the-variants.{At, Nowhere}
 use Rattle.loops.specs.Stops.{orStop, stopBy}
 

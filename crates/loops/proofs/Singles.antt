@@ -16,10 +16,10 @@ use Rattle.table.specs.Words.{Reads}
 use Rattle.easy.specs.Words.{EasyAt}
 use Rattle.easy.proofs.Easy.{numbers-read}
 use Rattle.easy.proofs.Lent.{tail-lent, lent-whole, lent-length}
-use Rattle.records.specs.declared.PlanEntry.{PlanEntry}
-use Rattle.records.specs.PlanWords.{Ready, Job}
-use Rattle.records.specs.PlanEntries.{wordsAt}
-use Rattle.records.proofs.OneEntry.{one-easy, one-read, one-write, one-written}
+use Rattle.plans.specs.declared.PlanEntry.{PlanEntry}
+use Rattle.plans.specs.PlanWords.{Ready, Job}
+use Rattle.plans.specs.PlanEntries.{wordsAt}
+use Rattle.plans.proofs.OneEntry.{one-easy, one-read, one-write, one-written}
 use Rattle.loops.specs.Steps.{Done}
 use Rattle.easy.specs.Each.{EachEasy, eachLeaf}
 use Rattle.loops.proofs.Lists.{row-within}

@@ -6,7 +6,7 @@ use lib.ListN.{take, drop}
 use Rattle.datatype.specs.Datatype.{Datatype, size}
 use Rattle.records.specs.Record.{reading, convertedRecord, raisedBelow}
 use Rattle.records.specs.Records.{readings, exceptions, copyResult}
-use Rattle.records.specs.PlanWords.{Job}
+use Rattle.plans.specs.PlanWords.{Job}
 
 -- l with r, d elements long, in the place of the d elements from at on
 abbrev pub put : ℕ → ℕ → List ℕ → List ℕ → List ℕ

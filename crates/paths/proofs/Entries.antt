@@ -20,7 +20,7 @@ use Rattle.table.specs.Words.{Reads}
 use Rattle.paths.specs.declared.Pair.{Pair}
 use Rattle.paths.specs.declared.Pair.the-variants.{Matched, Unmatched}
 use Rattle.paths.specs.Leaf.{leafOfType, Small, MatchFound}
-use Rattle.records.specs.PlanWords.{entryAt, entriesFrom, entriesAt}
+use Rattle.plans.specs.PlanWords.{entryAt, entriesFrom, entriesAt}
 use Rattle.paths.specs.Plan.{Planned, entryPut, entryOf, Added}
 use Rattle.paths.proofs.Shapes.{size-decode}
 

@@ -9,7 +9,7 @@ use Rattle.datatype.specs.Datatype.{Leaf}
 use Rattle.datatype.specs.Datatype.Leaf.{atomic, enumeration}
 use Rattle.datatype.specs.Matches.{Match, matchAt}
 use Rattle.datatype.specs.Matches.Match.{unmatched, matched}
-unfoldable pub use Rattle.records.specs.PlanWords.{leafOfType}
+unfoldable pub use Rattle.plans.specs.PlanWords.{leafOfType}
 use Rattle.table.specs.declared.Found.{Found}
 use Rattle.table.specs.declared.Found.the-variants.{At, Missing}
 use Rattle.table.specs.Table.{classWord, firstWord, rowsWord, layoutAt, symbolsAt, typeAt}

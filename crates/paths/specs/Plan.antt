@@ -5,7 +5,7 @@ use Prim.Native.Nat.{ℕ, zero, suc, _+_, _*_, _≤_}
 use lib.ListN.{getD, length, set}
 use Rattle.datatype.specs.Matches.{Match, onMatch}
 use Rattle.records.specs.Plan.{Entry, planOf}
-use Rattle.records.specs.PlanWords.{entriesAt}
+use Rattle.plans.specs.PlanWords.{entriesAt}
 use Rattle.table.specs.Table.{typeAt}
 use Rattle.paths.specs.declared.Pair.{Pair}
 use Rattle.paths.specs.Leaf.{matchOf}

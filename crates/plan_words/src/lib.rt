@@ -2,11 +2,11 @@
 ghost use mathlib.Core.Path.{_≡_};
 ghost use Prim.Native.Nat.{_+_, _*_, _≤_, _<_};
 ghost use lib.ListN.{length};
-ghost use Rattle.records.specs.PlanWords.{easyPlace, small, smallWords, enumWords};
+ghost use Rattle.plans.specs.PlanWords.{easyPlace, small, smallWords, enumWords};
 ghost use Rattle.easy.specs.Easy.{withWords};
 ghost use Rattle.layout.specs.Layout.{Valid};
-ghost use Rattle.records.specs.PlanEntries.{wordsAt, EntryPut, EntriesPut};
-use records::PlanEntry;
+ghost use Rattle.plans.specs.PlanEntries.{wordsAt, EntryPut, EntriesPut};
+use plans::PlanEntry;
 use bits::bits_of;
 use easy::at;
 use easy::put_eight;

@@ -5,9 +5,3 @@ pub mod ManyRecords
 pub mod Results
 pub mod Matched
 pub mod Plans
-pub mod LeafSteps
-pub mod Entries
-pub mod OneEntry
-pub mod Translations
-pub mod EnumWords
-pub mod EasyLeaves

@@ -4,6 +4,3 @@ pub mod Record
 pub mod Records
 pub mod Matched
 pub mod Plan
-pub mod PlanWords
-pub mod LeafSteps
-pub mod PlanEntries

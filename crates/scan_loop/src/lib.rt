@@ -3,10 +3,10 @@ ghost use mathlib.Core.Path.{_≡_};
 ghost use Prim.Native.Nat.{ℕ, _*_, _≤_};
 ghost use lib.ListN.{length};
 ghost use Rattle.records.specs.Plan.{planOf};
-ghost use Rattle.records.specs.PlanWords.{Job};
+ghost use Rattle.plans.specs.PlanWords.{Job};
 ghost use Rattle.loops.specs.Stops.{stopBy};
 use loops::Stop;
-use records::Raising;
+use plans::Raising;
 use one_record::first_raising;
 
 // The first of c records of s bytes in src that raises an exception, and its first leaf that does.

@@ -5,7 +5,7 @@ use mathlib.Core.List.{List, _++_}
 use Prim.Native.Nat.{ℕ, _≤_, _-_, _*_, _+_}
 use native.Mathlib.Omega.{arith}
 use lib.ListN.{length, take, drop}
-use Rattle.records.specs.PlanWords.{Job}
+use Rattle.plans.specs.PlanWords.{Job}
 use Rattle.easy.proofs.Lent.{lent-room, lent-length}
 use Rattle.loops.specs.Steps.{recordBy, raisedOf, Done}
 use Rattle.loops.proofs.Lists.{row-within}

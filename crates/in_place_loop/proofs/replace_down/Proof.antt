@@ -4,7 +4,7 @@ use Prim.Native.Nat.{_≤_, _<_, _-_, _*_, _+_}
 use native.Mathlib.Nat.{mul-le-mul-left}
 use native.Mathlib.Omega.{arith}
 use lib.ListN.{length, take, drop}
-use Rattle.records.specs.PlanWords.{Job}
+use Rattle.plans.specs.PlanWords.{Job}
 use Rattle.loops.proofs.Lists.{row-within}
 use Rattle.loops.proofs.Jobs.{raised-small, source-most}
 use Rattle.loops.proofs.PlaceTurns.{Down, down-start, down-turn, down-end}

@@ -3,8 +3,8 @@ use mathlib.Core.Bool.{true, false}
 use mathlib.Core.Path.{_≡_, sym, ap, _∙_}
 use native.Mathlib.Omega.{arith}
 use borrow.Author.Tests.{not-true, not-false}
-use Rattle.records.specs.PlanWords.{rowCode}
-use Rattle.records.proofs.Translations.{number-small, number-code}
+use Rattle.plans.specs.PlanWords.{rowCode}
+use Rattle.plans.proofs.Translations.{number-small, number-code}
 use borrow.Author.Needs.{needs}
 use Rattle.names_of.proofs.number_row.Statement.{statement}
 use Rattle.names_of.proofs.number_row.Tie as tie

@@ -5,7 +5,7 @@ use native.Mathlib.Omega.{arith}
 use lib.ListN.{length, getD, length-set}
 use lib.Seq.{getD-set-other}
 use borrow.Author.Needs.{needs}
-use Rattle.records.proofs.Translations.{Numbered, NumberWord, all-numbers, words-more}
+use Rattle.plans.proofs.Translations.{Numbered, NumberWord, all-numbers, words-more}
 use Rattle.names_of.proofs.numbers.Statement.{statement}
 use Rattle.names_of.proofs.numbers.Tie as tie
 

@@ -2,8 +2,8 @@
 use mathlib.Core.Path.{sym, ap, _∙_}
 use native.Mathlib.Omega.{arith}
 use borrow.Author.Needs.{needs}
-use Rattle.records.specs.PlanWords.{rowCode}
-use Rattle.records.proofs.Translations.{row-small, named-code}
+use Rattle.plans.specs.PlanWords.{rowCode}
+use Rattle.plans.proofs.Translations.{row-small, named-code}
 use Rattle.names_of.proofs.translation.Statement.{statement}
 use Rattle.names_of.proofs.translation.Tie as tie
 

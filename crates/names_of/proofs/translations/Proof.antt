@@ -4,7 +4,7 @@ use Prim.Native.Nat.{ℕ, _+_, _≤_, _<_, _-_}
 use native.Mathlib.Omega.{arith}
 use lib.ListN.{length, getD, length-set}
 use borrow.Author.Needs.{needs}
-use Rattle.records.proofs.Translations.{Named, Word, all-words, words-more}
+use Rattle.plans.proofs.Translations.{Named, Word, all-words, words-more}
 use Rattle.names_of.proofs.translations.Statement.{statement}
 use Rattle.names_of.proofs.translations.Tie as tie
 

@@ -2,7 +2,7 @@
 use mathlib.Core.Path.{_∙_}
 use native.Mathlib.Omega.{arith}
 use Rattle.bits.proofs.Eight.{bytes-of}
-use Rattle.records.proofs.EnumWords.{enum-words-fit, enum-size-fit, enum-index, enum-row-fit, enum-done}
+use Rattle.plans.proofs.EnumWords.{enum-words-fit, enum-size-fit, enum-index, enum-row-fit, enum-done}
 use borrow.Author.Needs.{needs}
 use Rattle.one_leaf.proofs.convert_enum.Statement.{statement}
 use Rattle.one_leaf.proofs.convert_enum.Tie as tie

@@ -1,5 +1,5 @@
 -- `one_leaf::convert_leaf` meets its contract. Assumes nothing.
-use Rattle.records.proofs.LeafSteps.{store-fits, leaf-stored}
+use Rattle.plans.proofs.LeafSteps.{store-fits, leaf-stored}
 use borrow.Author.Needs.{needs}
 use Rattle.one_leaf.proofs.convert_leaf.Statement.{statement}
 use Rattle.one_leaf.proofs.convert_leaf.Tie as tie

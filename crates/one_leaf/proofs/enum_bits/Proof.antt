@@ -1,6 +1,6 @@
 -- `one_leaf::enum_bits` meets its contract: a row that was found is one of the table's 256. Assumes nothing.
 use borrow.Author.Needs.{needs}
-use Rattle.records.proofs.LeafSteps.{row-below, row-found, row-missing}
+use Rattle.plans.proofs.LeafSteps.{row-below, row-found, row-missing}
 use Rattle.one_leaf.proofs.enum_bits.Statement.{statement}
 use Rattle.one_leaf.proofs.enum_bits.Tie as tie
 

@@ -1,6 +1,6 @@
 -- `one_leaf::enum_leaf` meets its contract. Assumes nothing.
 use native.Mathlib.Omega.{arith}
-use Rattle.records.proofs.LeafSteps.{source-ready, enum-fits, enum-becomes, index-small, code-small, coded-becomes}
+use Rattle.plans.proofs.LeafSteps.{source-ready, enum-fits, enum-becomes, index-small, code-small, coded-becomes}
 use borrow.Author.Needs.{needs}
 use Rattle.one_leaf.proofs.enum_leaf.Statement.{statement}
 use Rattle.one_leaf.proofs.enum_leaf.Tie as tie

@@ -1,5 +1,5 @@
 -- `one_leaf::leaf_bits` meets its contract: by the class of the destination type. Assumes nothing.
-use Rattle.records.proofs.LeafSteps.{source-fits, destination-valid, enum-ready, plain-becomes}
+use Rattle.plans.proofs.LeafSteps.{source-fits, destination-valid, enum-ready, plain-becomes}
 use borrow.Author.Needs.{needs}
 use Rattle.one_leaf.proofs.leaf_bits.Statement.{statement}
 use Rattle.one_leaf.proofs.leaf_bits.Tie as tie

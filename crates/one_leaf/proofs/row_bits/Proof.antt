@@ -1,5 +1,5 @@
 -- `one_leaf::row_bits` meets its contract. Assumes nothing.
-use Rattle.records.proofs.LeafSteps.{code-none-of, code-some-of}
+use Rattle.plans.proofs.LeafSteps.{code-none-of, code-some-of}
 use borrow.Author.Needs.{needs}
 use Rattle.one_leaf.proofs.row_bits.Statement.{statement}
 use Rattle.one_leaf.proofs.row_bits.Tie as tie

@@ -1,6 +1,6 @@
 -- `one_leaf::symbol_bits` meets its contract: by the word of `to`. Assumes nothing.
 use borrow.Author.Needs.{needs}
-use Rattle.records.proofs.LeafSteps.{code-none, code-some}
+use Rattle.plans.proofs.LeafSteps.{code-none, code-some}
 use Rattle.one_leaf.proofs.symbol_bits.Statement.{statement}
 use Rattle.one_leaf.proofs.symbol_bits.Tie as tie
 

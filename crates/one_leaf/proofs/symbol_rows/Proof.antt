@@ -1,6 +1,6 @@
 -- `one_leaf::symbol_rows` meets its contract: by the type's class. Assumes nothing.
 use borrow.Author.Needs.{needs}
-use Rattle.records.proofs.LeafSteps.{symbols-some, symbols-none}
+use Rattle.plans.proofs.LeafSteps.{symbols-some, symbols-none}
 use Rattle.one_leaf.proofs.symbol_rows.Statement.{statement}
 use Rattle.one_leaf.proofs.symbol_rows.Tie as tie
 

@@ -1,6 +1,6 @@
 -- `one_leaf::value_bits` meets its contract: by the sign of the row's number. Assumes nothing.
 use borrow.Author.Needs.{needs}
-use Rattle.records.proofs.LeafSteps.{value-negative, value-plain}
+use Rattle.plans.proofs.LeafSteps.{value-negative, value-plain}
 use Rattle.one_leaf.proofs.value_bits.Statement.{statement}
 use Rattle.one_leaf.proofs.value_bits.Tie as tie
 

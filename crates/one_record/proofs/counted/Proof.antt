@@ -1,6 +1,6 @@
 -- `one_record::counted` meets its contract. Assumes nothing.
 use borrow.Author.Needs.{needs}
-use Rattle.records.proofs.Entries.{raises-one}
+use Rattle.plans.proofs.Entries.{raises-one}
 use Rattle.one_record.proofs.counted.Statement.{statement}
 use Rattle.one_record.proofs.counted.Tie as tie
 

@@ -1,6 +1,6 @@
 -- `one_record::entry_kind` meets its contract. Assumes nothing.
 use borrow.Author.Needs.{needs}
-use Rattle.records.proofs.EasyLeaves.{easy-kind}
+use Rattle.plans.proofs.EasyLeaves.{easy-kind}
 use Rattle.one_record.proofs.entry_kind.Statement.{statement}
 use Rattle.one_record.proofs.entry_kind.Tie as tie
 

@@ -4,8 +4,8 @@ use Prim.Native.Nat.{ℕ, _≤_, _-_}
 use native.Mathlib.Omega.{arith}
 use lib.ListN.{length}
 use Rattle.records.specs.Plan.{firstBy}
-use Rattle.records.specs.PlanWords.{entriesFrom, Ready, entriesOf}
-use Rattle.records.proofs.Entries.{entry-room, entry-ready, first-start, first-turn, first-found, first-end}
+use Rattle.plans.specs.PlanWords.{entriesFrom, Ready, entriesOf}
+use Rattle.plans.proofs.Entries.{entry-room, entry-ready, first-start, first-turn, first-found, first-end}
 use Rattle.one_record.proofs.first_raising.Statement.{statement}
 use Rattle.one_record.proofs.first_raising.Tie as tie
 

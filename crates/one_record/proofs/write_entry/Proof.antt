@@ -2,7 +2,7 @@
 use native.Mathlib.Omega.{arith}
 use mathlib.Core.Path.{refl}
 use borrow.Author.Needs.{needs}
-use Rattle.records.proofs.EasyLeaves.{easy-at, easy-kind, easy-stored, enum-here}
+use Rattle.plans.proofs.EasyLeaves.{easy-at, easy-kind, easy-stored, enum-here}
 use Rattle.one_record.proofs.write_entry.Statement.{statement}
 use Rattle.one_record.proofs.write_entry.Tie as tie
 

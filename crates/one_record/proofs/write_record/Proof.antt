@@ -4,8 +4,8 @@ use Prim.Native.Nat.{_≤_, _-_}
 use native.Mathlib.Omega.{arith}
 use lib.ListN.{length}
 use borrow.Author.Needs.{needs}
-use Rattle.records.specs.PlanWords.{Ready}
-use Rattle.records.proofs.Entries.{entry-room, entry-ready, Left, left-start, left-turn, left-end}
+use Rattle.plans.specs.PlanWords.{Ready}
+use Rattle.plans.proofs.Entries.{entry-room, entry-ready, Left, left-start, left-turn, left-end}
 use Rattle.one_record.proofs.write_record.Statement.{statement}
 use Rattle.one_record.proofs.write_record.Tie as tie
 

@@ -1,6 +1,6 @@
 -- `plan_words::entry` meets its contract. Assumes nothing.
 use borrow.Author.Needs.{needs}
-use Rattle.records.proofs.Entries.{words-are}
+use Rattle.plans.proofs.Entries.{words-are}
 use Rattle.plan_words.proofs.entry.Statement.{statement}
 use Rattle.plan_words.proofs.entry.Tie as tie
 

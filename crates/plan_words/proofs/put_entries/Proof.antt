@@ -3,8 +3,8 @@ use mathlib.Core.Path.{_≡_, _∙_}
 use Prim.Native.Nat.{_≤_, _-_}
 use native.Mathlib.Omega.{arith}
 use lib.ListN.{length}
-use Rattle.records.specs.PlanEntries.{EntriesPut}
-use Rattle.records.proofs.EasyLeaves.{puts-none, puts-more, puts-all}
+use Rattle.plans.specs.PlanEntries.{EntriesPut}
+use Rattle.plans.proofs.EasyLeaves.{puts-none, puts-more, puts-all}
 use Rattle.plan_words.proofs.put_entries.Statement.{statement}
 use Rattle.plan_words.proofs.put_entries.Tie as tie
 

@@ -1,6 +1,6 @@
 -- `plan_words::put_entry` meets its contract. Assumes nothing.
 use borrow.Author.Needs.{needs}
-use Rattle.records.proofs.EasyLeaves.{put-plain, put-enums}
+use Rattle.plans.proofs.EasyLeaves.{put-plain, put-enums}
 use Rattle.plan_words.proofs.put_entry.Statement.{statement}
 use Rattle.plan_words.proofs.put_entry.Tie as tie
 

@@ -1,6 +1,6 @@
 -- `plan_words::put_enum` meets its contract. Assumes nothing.
 use mathlib.Core.Path.{sym, _∙_}
-use Rattle.records.proofs.EnumWords.{both-valid}
+use Rattle.plans.proofs.EnumWords.{both-valid}
 use borrow.Author.Needs.{needs}
 use Rattle.plan_words.proofs.put_enum.Statement.{statement}
 use Rattle.plan_words.proofs.put_enum.Tie as tie

@@ -5,7 +5,7 @@ use native.Mathlib.Nat.{le-refl}
 use native.Mathlib.Omega.{arith}
 use borrow.Author.Needs.{needs}
 use Rattle.records.specs.Plan.{planOf}
-use Rattle.records.specs.PlanWords.{Job}
+use Rattle.plans.specs.PlanWords.{Job}
 use Rattle.easy.proofs.Lent.{lent-room}
 use Rattle.loops.specs.Stops.{stopBy}
 use Rattle.loops.proofs.Lists.{row-within}

@@ -4,12 +4,12 @@ use mathlib.Core.List.{List}
 use Prim.Native.Nat.{ℕ, _+_, _-_, _/_, _%_, _≤_, _<_}
 use lib.ListN.{getD, length}
 use Rattle.table.specs.Table.{classWord, layoutAt}
-use Rattle.records.specs.declared.PlanEntry.{PlanEntry}
-use Rattle.records.specs.declared.Raising.{Raising}
-use Rattle.records.specs.declared.Raising.the-variants.{At, Nowhere}
+use Rattle.plans.specs.declared.PlanEntry.{PlanEntry}
+use Rattle.plans.specs.declared.Raising.{Raising}
+use Rattle.plans.specs.declared.Raising.the-variants.{At, Nowhere}
 use Rattle.records.specs.Plan.{Raised}
 use Rattle.records.specs.Plan.Raised.{nowhere, at}
-use Rattle.records.specs.PlanWords.{planWord, easyPlace, EasyEntry, Numbers, Pair}
+use Rattle.plans.specs.PlanWords.{planWord, easyPlace, EasyEntry, Numbers, Pair}
 
 abbrev pub wordsAt : List ℕ → ℕ → PlanEntry
 wordsAt plan i = record { to = planWord plan i 0; from = planWord plan i 1; source = planWord plan i 2; destination = planWord plan i 3 }

@@ -11,7 +11,7 @@ use Rattle.number.specs.Number.{bitsOf}
 use Rattle.table.specs.declared.Found.{Found}
 use Rattle.table.specs.declared.Found.the-variants.{At, Missing}
 use Rattle.table.specs.Table.{classWord, rowsWord, layoutAt, valueAt}
-use Rattle.records.specs.PlanWords.{EnumAt, Pair}
+use Rattle.plans.specs.PlanWords.{EnumAt, Pair}
 
 -- how many symbols type k has: none where it is no enum
 unfoldable pub symbolRows : List ℕ → ℕ → ℕ

@@ -21,9 +21,9 @@ use Rattle.table.specs.declared.Found.the-variants.{At}
 use Rattle.table.specs.Table.{rowWord, classWord, firstWord, rowsWord, layoutAt, bytesAt, nameAt}
 use Rattle.table.specs.Words.{Reads}
 use Rattle.table.specs.Rows.{rowNamed, rowNumbered}
-use Rattle.records.specs.PlanWords.{RowsWithin, rowCode, Translates, Numbers}
-use Rattle.records.specs.PlanEntries.{Steps}
-use Rattle.records.proofs.LeafSteps.{numbered-below}
+use Rattle.plans.specs.PlanWords.{RowsWithin, rowCode, Translates, Numbers}
+use Rattle.plans.specs.PlanEntries.{Steps}
+use Rattle.plans.proofs.LeafSteps.{numbered-below}
 
 named-below : (w t x : List ℕ) (first n j : ℕ) → rowNamed w t x first n ≡ At j → j < first + n
 unfolding rowNamed

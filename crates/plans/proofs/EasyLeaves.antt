@@ -20,12 +20,12 @@ use Rattle.easy.specs.Easy.{easy, wordsOf, easyWords, withWords}
 use Rattle.easy.specs.Words.{EasyAt}
 use Rattle.easy.proofs.Easy.{number, order-small}
 use Rattle.easy.proofs.Words.{words-length, words-below, words-at, easy-stands, easy-kept}
-use Rattle.records.specs.PlanWords.{planWord, easyPlace, enumWords, EasyEntry, Pair, pairBecomes}
-use Rattle.records.specs.PlanEntries.{EntryPut, EntriesPut, EntryReady}
-use Rattle.records.specs.declared.PlanEntry.{PlanEntry}
-use Rattle.records.specs.LeafSteps.{EnumHere}
-use Rattle.records.proofs.LeafSteps.{leaf-layout, leaf-plain}
-use Rattle.records.proofs.EnumWords.{enum-stands, enum-kept}
+use Rattle.plans.specs.PlanWords.{planWord, easyPlace, enumWords, EasyEntry, Pair, pairBecomes}
+use Rattle.plans.specs.PlanEntries.{EntryPut, EntriesPut, EntryReady}
+use Rattle.plans.specs.declared.PlanEntry.{PlanEntry}
+use Rattle.plans.specs.LeafSteps.{EnumHere}
+use Rattle.plans.proofs.LeafSteps.{leaf-layout, leaf-plain}
+use Rattle.plans.proofs.EnumWords.{enum-stands, enum-kept}
 
 module _ (s d : ℕ) (ws wd to : List ℕ) (i : ℕ) (e : EasyEntry to i ws wd s d) {o : ℕ} (ro : Reads (getD to (easyPlace i) 0) o) (some : o ≡ 0 → ⊥) (low : o < 3) where
   here : (classWord wd d ≡ 2 → ⊥) × EasyAt (layoutAt ws s) (layoutAt wd d) to (easyPlace i)

@@ -9,13 +9,13 @@ use lib.ListN.{length, getD}
 use Rattle.number.specs.Place.{stored}
 use Rattle.table.specs.Table.{layoutAt}
 use Rattle.table.specs.Words.{Reads}
-use Rattle.records.specs.declared.PlanEntry.{PlanEntry}
-use Rattle.records.specs.declared.Raising.the-variants.{At, Nowhere}
+use Rattle.plans.specs.declared.PlanEntry.{PlanEntry}
+use Rattle.plans.specs.declared.Raising.the-variants.{At, Nowhere}
 use Rattle.records.specs.Record.{raises}
 use Rattle.records.specs.Plan.{Entry, becomes, written, raisedBy, orElse, firstBy, Sound, AllSound}
-use Rattle.records.specs.PlanWords.{planWord, entryAt, entriesFrom, entriesAt, Pair, pairBecomes, Ready, entriesOf}
-use Rattle.records.specs.PlanEntries.{wordsAt, raisingOf, EntryReady}
-use Rattle.records.proofs.LeafSteps.{leaf-layout}
+use Rattle.plans.specs.PlanWords.{planWord, entryAt, entriesFrom, entriesAt, Pair, pairBecomes, Ready, entriesOf}
+use Rattle.plans.specs.PlanEntries.{wordsAt, raisingOf, EntryReady}
+use Rattle.plans.proofs.LeafSteps.{leaf-layout}
 
 -- ---- the list of entries
 

@@ -32,10 +32,10 @@ use Rattle.table.specs.Table.{typeWord, rowWord, classWord, firstWord, rowsWord
 use Rattle.table.specs.Words.{Reads}
 use Rattle.table.specs.Rows.{rowNamed, rowNumbered, valueFound, nameFound}
 use Rattle.table.proofs.Lookups.{symbol-named, symbol-numbered}
 use Rattle.records.specs.Leaf.{numberIn, symbols, untranslated, converted}
-use Rattle.records.specs.PlanWords.{leafOfType, RowsWithin, rowCode, Numbers, Pair, pairBecomes}
-use Rattle.records.specs.LeafSteps.{symbolRows, allOnes, codeBits, rowOf, foundBits, EnumReady}
+use Rattle.plans.specs.PlanWords.{leafOfType, RowsWithin, rowCode, Numbers, Pair, pairBecomes}
+use Rattle.plans.specs.LeafSteps.{symbolRows, allOnes, codeBits, rowOf, foundBits, EnumReady}
 use Rattle.records.proofs.OneLeaf.{converted-lt, listed-in-range}
 
 -- ---- the words of a row
 

@@ -21,9 +21,9 @@ use Rattle.table.specs.Records.{orderCode}
 use Rattle.easy.specs.Easy.{withWords}
 use Rattle.easy.proofs.Easy.{stored-as, window-is, shift-small, order-back}
 use Rattle.easy.proofs.Words.{words-at}
-use Rattle.records.specs.PlanWords.{small, smallWords, enumWords, EnumAt, Pair, pairBecomes}
-use Rattle.records.specs.LeafSteps.{rowOf, foundBits, EnumReady, EnumHere}
-use Rattle.records.proofs.LeafSteps.{index-small, code-small, coded-becomes, leaf-stored}
+use Rattle.plans.specs.PlanWords.{small, smallWords, enumWords, EnumAt, Pair, pairBecomes}
+use Rattle.plans.specs.LeafSteps.{rowOf, foundBits, EnumReady, EnumHere}
+use Rattle.plans.proofs.LeafSteps.{index-small, code-small, coded-becomes, leaf-stored}
 
 six : (a b c d e f : Bool) → (a && (b && (c && (d && (e && f))))) ≡ true → (a ≡ true) × (b ≡ true) × (c ≡ true) × (d ≡ true) × (e ≡ true) × (f ≡ true)
 six true true true true true f h = (refl, refl, refl, refl, refl, h)

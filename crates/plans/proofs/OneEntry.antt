@@ -9,12 +9,12 @@ use Rattle.number.specs.Place.{stored}
 use Rattle.table.specs.Table.{layoutAt}
 use Rattle.table.specs.Words.{Reads}
 use Rattle.easy.specs.Words.{EasyAt}
-use Rattle.records.specs.declared.PlanEntry.{PlanEntry}
+use Rattle.plans.specs.declared.PlanEntry.{PlanEntry}
 use Rattle.records.specs.Plan.{written, raisedBy}
-use Rattle.records.specs.PlanWords.{Ready, entriesOf}
-use Rattle.records.specs.PlanEntries.{wordsAt, EntryReady}
-use Rattle.records.proofs.EasyLeaves.{easy-at, easy-kind, easy-stored}
-use Rattle.records.proofs.Entries.{entry-ready, left-start, left-turn, left-end}
+use Rattle.plans.specs.PlanWords.{Ready, entriesOf}
+use Rattle.plans.specs.PlanEntries.{wordsAt, EntryReady}
+use Rattle.plans.proofs.EasyLeaves.{easy-at, easy-kind, easy-stored}
+use Rattle.plans.proofs.Entries.{entry-ready, left-start, left-turn, left-end}
 
 module _ {s d : ℕ} {plan : List ℕ} {n : ℕ} {ws wd to : List ℕ} (p : Ready s d plan n ws wd to) (single : n ≡ 1) (e : PlanEntry) (q : e ≡ wordsAt plan 0)
     {o : ℕ} (ro : Reads (getD to 32768 0) o) (some : o ≡ 0 → ⊥) (low : o < 3) where

@@ -1,0 +1,3 @@
+pub mod PlanWords
+pub mod LeafSteps
+pub mod PlanEntries
