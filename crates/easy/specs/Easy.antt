@@ -9,6 +9,7 @@ use Rattle.bits.specs.declared.Order.the-variants.{LE, BE}
 use Rattle.layout.specs.declared.Layout.{Layout}
 use Rattle.layout.specs.Layout.{valid}
 use Rattle.table.specs.Records.{orderCode}
+use Rattle.entry_code.specs.Code.{packed}
 
 -- whether every number of p bits is one of q bits
 abbrev pub inside : Bool → Bool → ℕ → ℕ → Bool
@@ -31,15 +32,16 @@ abbrev pub carryOf : Bool → ℕ → ℕ → ℕ
 carryOf false p q = 0
 carryOf true p q = (2 ^ q - 1) - (2 ^ p - 1)
 
--- the eight words of a pair: 1 or 2 by the source's order, shift, precision, the two halves of the carry, the destination's size and order, and one that is free
+-- the four words of a pair: the packed one, the two halves of the carry, and one that is free
 abbrev pub wordsOf : Layout → Layout → List ℕ
 wordsOf l m =
     let carry : ℕ = carryOf (l .signed) (l .precision) (m .precision) in
-    (1 + orderCode (l .order)) ∷ shiftOf (l .order) (l .size .0) (l .offset .0) ∷ l .precision ∷ carry % 4294967296 ∷ carry / 4294967296 ∷ m .size .0 ∷ orderCode (m .order) ∷ 0 ∷ []
+    packed (1 + orderCode (l .order)) (shiftOf (l .order) (l .size .0) (l .offset .0)) (l .precision) (m .size .0) (orderCode (m .order)) 0
+    ∷ carry % 4294967296 ∷ carry / 4294967296 ∷ 0 ∷ []
 
 -- the words of a pair of valid layouts that is easy, and zeros for any other
 abbrev pub easyWords : Layout → Layout → List ℕ
-easyWords l m = cond (valid l && (valid m && easy l m)) (wordsOf l m) (replicate 8 0)
+easyWords l m = cond (valid l && (valid m && easy l m)) (wordsOf l m) (replicate 4 0)
 
 -- w with these words from word k on
 unfoldable pub withWords : List ℕ → ℕ → List ℕ → List ℕ

@@ -7,6 +7,7 @@ use lib.ListN.{getD}
 use Rattle.layout.specs.declared.Layout.{Layout}
 use Rattle.layout.specs.Layout.{Valid}
 use Rattle.table.specs.Records.{orderCode}
+use Rattle.entry_code.specs.Code.{routeIn, shiftIn, precisionIn, sizeIn, orderIn}
 use Rattle.easy.specs.Easy.{easy, shiftOf, carryOf}
 
 -- the numbers of an easy pair: 1 or 2 by the source's order, shift, precision, carry, the destination's size and order
@@ -24,4 +25,5 @@ pub record EasyBy (l m : Layout) (o s p c n r : ℕ) : Type 0 where
 -- they stand from word k of w on
 abbrev pub EasyAt : Layout → Layout → List ℕ → ℕ → Type 0
 EasyAt l m w k =
-    EasyBy l m (getD w k 0) (getD w (k + 1) 0) (getD w (k + 2) 0) (getD w (k + 3) 0 + getD w (k + 4) 0 * 4294967296) (getD w (k + 5) 0) (getD w (k + 6) 0)
+    EasyBy l m (routeIn (getD w k 0)) (shiftIn (getD w k 0)) (precisionIn (getD w k 0)) (getD w (k + 1) 0 + getD w (k + 2) 0 * 4294967296)
+    (sizeIn (getD w k 0)) (orderIn (getD w k 0))

@@ -3,6 +3,7 @@ use mathlib.Core.Path.{_≡_}
 use mathlib.Core.List.{List, [], _∷_, _++_}
 use Prim.Native.Nat.{ℕ, zero, suc, _+_, _*_, _≤_}
 use lib.ListN.{getD, length, set}
+use Rattle.datatype.specs.Datatype.{size}
 use Rattle.datatype.specs.Matches.{Match, onMatch}
 use Rattle.records.specs.Plan.{Entry, planOf}
 use Rattle.plans.specs.PlanWords.{entriesAt}
@@ -14,13 +15,14 @@ use Rattle.paths.specs.Leaf.{matchOf}
 pub record Planned (ws ts : List ℕ) (i : ℕ) (wd td : List ℕ) (k : ℕ) (before p : List ℕ) (r : ℕ) : Type 0 where
   pub entries : entriesAt p r ws ts wd td ≡ planOf (typeAt ws ts i) (typeAt wd td k)
   pub room : length p ≡ length before
+  pub few : r ≤ size (typeAt wd td k)
   pub most : r ≤ 4096
 
 -- ---- one entry more
 
--- entry n of these four words
+-- entry n, in two words
 unfoldable pub entryPut : List ℕ → ℕ → ℕ → ℕ → ℕ → ℕ → List ℕ
-entryPut plan n to from s d = set (set (set (set plan (4 * n) to) (4 * n + 1) from) (4 * n + 2) s) (4 * n + 3) d
+entryPut plan n to from s d = set (set plan (2 * n) (to * 4096 + from)) (2 * n + 1) (s * 64 + d)
 
 -- the entry of a match at byte b, if there is one
 abbrev pub entryOf : ℕ → Match → List Entry

@@ -1,52 +1,62 @@
--- What the functions inside this crate promise of an entry's words, and the answer of a scan. No meaning of document 01 stands here.
+-- What the functions that make and read the entries of a plan promise, and the answer of a scan. No meaning of document 01 stands here.
 use mathlib.Core.Path.{_≡_}
 use mathlib.Core.List.{List}
-use Prim.Native.Nat.{ℕ, _+_, _-_, _/_, _%_, _≤_, _<_}
+use Prim.Native.Nat.{ℕ, _+_, _≤_, _<_}
 use lib.ListN.{getD, length}
-use Rattle.table.specs.Table.{classWord, layoutAt}
+use Rattle.datatype.specs.WellFormed.{WellFormedLeaf}
+use Rattle.table.specs.Table.{layoutAt}
+use Rattle.entry_code.specs.Code.{routeIn}
 use Rattle.plans.specs.declared.PlanEntry.{PlanEntry}
 use Rattle.plans.specs.declared.Raising.{Raising}
 use Rattle.plans.specs.declared.Raising.the-variants.{At, Nowhere}
 use Rattle.records.specs.Plan.{Raised}
 use Rattle.records.specs.Plan.Raised.{nowhere, at}
-use Rattle.plans.specs.PlanWords.{planWord, easyPlace, EasyEntry, Numbers, Pair}
+use Rattle.plans.specs.PlanWords.{leafOfType, RowsWithin, toByte, fromByte, sourceType, destinationType, wordsPlace, EntryWords, NamesAt, Pair}
 
 abbrev pub wordsAt : List ℕ → ℕ → PlanEntry
-wordsAt plan i = record { to = planWord plan i 0; from = planWord plan i 1; source = planWord plan i 2; destination = planWord plan i 3 }
+wordsAt plan i = record { to = toByte plan i; from = fromByte plan i; source = sourceType plan i; destination = destinationType plan i }
 
 abbrev pub raisingOf : Raised → Raising
 raisingOf nowhere = Nowhere
 raisingOf (at b kind) = At b kind
 
--- the words of entry i, put into `before`
-pub record EntryPut (before : List ℕ) (i s d : ℕ) (ws wd after : List ℕ) : Type 0 where
-  pub here : EasyEntry after i ws wd s d
-  pub below : (j : ℕ) → j < easyPlace i → getD after j 0 ≡ getD before j 0
-  pub long : length after ≡ length before
-
--- those of the first n entries
-pub record EntriesPut (before plan : List ℕ) (n : ℕ) (ws wd after : List ℕ) : Type 0 where
-  pub each : (i : ℕ) → i < n → EasyEntry after i ws wd (planWord plan i 2) (planWord plan i 3)
-  pub below : (j : ℕ) → j < 32768 → getD after j 0 ≡ getD before j 0
-  pub long : length after ≡ length before
-
 -- entry i, which is e, for a source record of s bytes and a destination record of d bytes
-pub record EntryReady (s d : ℕ) (e : PlanEntry) (i : ℕ) (ws wd to : List ℕ) : Type 0 where
-  pub pair : Pair (e .source) (e .destination) ws wd to
+pub record EntryReady (s d : ℕ) (e : PlanEntry) (i : ℕ) (ws wd words : List ℕ) : Type 0 where
+  pub pair : Pair (e .source) (e .destination) ws wd words (wordsPlace i)
   pub read : e .from + layoutAt ws (e .source) .size .0 ≤ s
   pub write : e .to + layoutAt wd (e .destination) .size .0 ≤ d
   pub few : i < 4096
-  pub words : easyPlace i + 8 ≤ length to
-  pub easy : EasyEntry to i ws wd (e .source) (e .destination)
+  pub room : wordsPlace i + 4 ≤ length words
 
--- r words from word k on, where none behind the first is wanted
-pub record Steps (w : List ℕ) (k r : ℕ) : Type 0 where
-  pub some : 1 ≤ r
-  pub within : r ≤ 256 - k % 256
-  pub skips : 1 < r → classWord w (k / 256) ≡ 2 → ⊥
+-- ---- the words of entries are put
 
--- the rows by their numbers, put into `before`
-pub record NumbersPut (before ws after : List ℕ) : Type 0 where
-  pub numbers : Numbers after ws
-  pub below : (j : ℕ) → j < 16384 → getD after j 0 ≡ getD before j 0
+-- the leaves of types s and d are well formed, and their rows among the table's 256
+pub record PairFormed (ws ts wd td : List ℕ) (s d : ℕ) : Type 0 where
+  pub source : WellFormedLeaf (leafOfType ws ts s)
+  pub destination : WellFormedLeaf (leafOfType wd td d)
+  pub sourceRows : RowsWithin ws s
+  pub destinationRows : RowsWithin wd d
+
+-- the words of an entry, whose span lies between `start` and `free`
+pub record Standing (words : List ℕ) (k start free : ℕ) (ws ts wd td : List ℕ) (s d : ℕ) : Type 0 where
+  pub words : EntryWords words k ws ts wd td s d
+  pub bounds : 3 ≤ routeIn (getD words k 0) → routeIn (getD words k 0) < 6 → (start ≤ getD words (k + 3) 0) × (getD words (k + 3) 0 + getD words (k + 2) 0 ≤ free)
+
+-- those of one entry, from word k on, put into `before`: words below k and those from behind them up to `free` are as they were, and spans now end at `next`
+pub record EntryPut (before : List ℕ) (k start free : ℕ) (ws ts wd td : List ℕ) (s d : ℕ) (after : List ℕ) (next : ℕ) : Type 0 where
+  pub here : Standing after k start next ws ts wd td s d
+  pub grows : free ≤ next
+  pub below : (j : ℕ) → j < k → getD after j 0 ≡ getD before j 0
+  pub between : (j : ℕ) → k + 4 ≤ j → j < free → getD after j 0 ≡ getD before j 0
+  pub long : length after ≡ length before
+
+-- those of the first n entries of a plan
+pub record EntriesPut (before plan : List ℕ) (n : ℕ) (ws ts wd td after : List ℕ) : Type 0 where
+  pub each : (i : ℕ) → i < n → EntryWords after (wordsPlace i) ws ts wd td (sourceType plan i) (destinationType plan i)
+  pub long : length after ≡ length before
+
+-- the ids of names, put where one of n entries wants them; the words behind the ids are as they were
+pub record NamesPut (before : List ℕ) (n : ℕ) (ws ts wd td after : List ℕ) : Type 0 where
+  pub names : (i : ℕ) → i < n → 6 ≤ routeIn (getD after (wordsPlace i) 0) → NamesAt after ws ts wd td
+  pub above : (j : ℕ) → 512 ≤ j → getD after j 0 ≡ getD before j 0
   pub long : length after ≡ length before
