@@ -17,11 +17,11 @@ pub mod each;
 
 use bits::Order;
 use bits::bits_of;
-use loading::bits_be;
-use loading::bits_le;
 use bits::shift::ones;
 use layout::Layout;
 use layout::is_valid;
+use loading::bits_be;
+use loading::bits_le;
 use table::codes::order_code;
 use table::codes::order_of;
 
