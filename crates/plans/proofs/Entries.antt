@@ -2,7 +2,7 @@
 use mathlib.Core.Path.{_≡_, refl, ap, _∙_}
 use mathlib.Core.Logic.{⊎-elim}
 use mathlib.Core.List.{List, [], _∷_, _++_}
-use Prim.Native.Nat.{ℕ, zero, suc, _+_, _*_, _-_, _≤_, _<_}
+use Prim.Native.Nat.{ℕ, zero, suc, _+_, _*_, _-_, _/_, _%_, _≤_, _<_}
 use native.Mathlib.Nat.{eq-or-lt-of-le, le-refl}
 use native.Mathlib.Omega.{arith}
 use lib.ListN.{length, getD}
@@ -13,7 +13,7 @@ use Rattle.plans.specs.declared.PlanEntry.{PlanEntry}
 use Rattle.plans.specs.declared.Raising.the-variants.{At, Nowhere}
 use Rattle.records.specs.Record.{raises}
 use Rattle.records.specs.Plan.{Entry, becomes, written, raisedBy, orElse, firstBy, Sound, AllSound}
-use Rattle.plans.specs.PlanWords.{planWord, entryAt, entriesFrom, entriesAt, Pair, pairBecomes, Ready, entriesOf}
+use Rattle.plans.specs.PlanWords.{toByte, fromByte, sourceType, destinationType, entryAt, entriesFrom, entriesAt, wordsPlace, Pair, pairBecomes, Ready, entriesOf}
 use Rattle.plans.specs.PlanEntries.{wordsAt, raisingOf, EntryReady}
 use Rattle.plans.proofs.LeafSteps.{leaf-layout}
 
@@ -48,11 +48,11 @@ module _ (plan ws ts wd td : List ℕ) where
 
 -- ---- entry i of a plan that is ready
 
-module _ (s d : ℕ) (plan : List ℕ) (n : ℕ) (ws wd to : List ℕ) (p : Ready s d plan n ws wd to) (i : ℕ) (h : i < n) where
+module _ (s d : ℕ) (plan : List ℕ) (n : ℕ) (ws wd words : List ℕ) (p : Ready s d plan n ws wd words) (i : ℕ) (h : i < n) where
   sound : Sound s d (entryAt plan ws (p .sourceText) wd (p .destinationText) i)
   sound = sound-at plan ws (p .sourceText) wd (p .destinationText) s d n 0 i (p .sound) (omega arith) (omega arith)
 
-  pair : Pair (planWord plan i 2) (planWord plan i 3) ws wd to
+  pair : Pair (sourceType plan i) (destinationType plan i) ws wd words (wordsPlace i)
   pair =
       record {
         sourceText = p .sourceText;
@@ -61,47 +61,46 @@ module _ (s d : ℕ) (plan : List ℕ) (n : ℕ) (ws wd to : List ℕ) (p : Read
         destination = sound .destination;
         sourceRows = p .sourceRows i h;
         destinationRows = p .destinationRows i h;
-        translates = p .translates;
-        numbers = p .numbers;
+        entry = p .entry i h;
+        names = p .names i h;
       }
 
-  pub entry-room : 4 * i + 4 ≤ length plan
+  pub entry-room : 2 * i + 2 ≤ length plan
   entry-room = omega (arith, p .room)
 
-  pub entry-ready : (e : PlanEntry) → e ≡ wordsAt plan i → EntryReady s d e i ws wd to
+  pub entry-ready : (e : PlanEntry) → e ≡ wordsAt plan i → EntryReady s d e i ws wd words
   entry-ready e q =
       rw q (record {
         pair = pair;
-        read = rw (← (leaf-layout ws (p .sourceText) (planWord plan i 2))) (sound .read);
-        write = rw (← (leaf-layout wd (p .destinationText) (planWord plan i 3))) (sound .write);
+        read = rw (← (leaf-layout ws (p .sourceText) (sourceType plan i))) (sound .read);
+        write = rw (← (leaf-layout wd (p .destinationText) (destinationType plan i))) (sound .write);
         few = omega (arith, p .most);
-        words = omega (arith, p .words);
-        easy = p .easy i h;
+        room = omega (arith, p .long);
       })
 
 -- ---- a record written entry by entry
 
 -- from entry i on the rest is to be written over dst, and to be counted
-abbrev pub Left : {s d : ℕ} {plan : List ℕ} {n : ℕ} {ws wd to : List ℕ} → Ready s d plan n ws wd to → List ℕ → List ℕ → ℕ → List ℕ → ℕ → Type 0
+abbrev pub Left : {s d : ℕ} {plan : List ℕ} {n : ℕ} {ws wd words : List ℕ} → Ready s d plan n ws wd words → List ℕ → List ℕ → ℕ → List ℕ → ℕ → Type 0
 Left {plan = plan} {n = n} {ws = ws} {wd = wd} p src dst₀ i dst raised =
     let rest = entriesFrom plan ws (p .sourceText) wd (p .destinationText) i (n - i) in
     (written rest src dst ≡ written (entriesOf p) src dst₀) × (raised + raisedBy rest src ≡ raisedBy (entriesOf p) src)
 
-module _ (s d : ℕ) (plan : List ℕ) (n : ℕ) (ws wd to : List ℕ) (p : Ready s d plan n ws wd to) (src dst₀ : List ℕ) where
+module _ (s d : ℕ) (plan : List ℕ) (n : ℕ) (ws wd words : List ℕ) (p : Ready s d plan n ws wd words) (src dst₀ : List ℕ) where
   pub left-start : Left p src dst₀ 0 dst₀ 0
   left-start = let e : n - 0 ≡ n = omega arith in rw e (refl, omega arith)
 
   pub left-turn : (i raised kind : ℕ) (dst out : List ℕ) {one : ℕ} {e : PlanEntry} → i < n → Left p src dst₀ i dst raised → e ≡ wordsAt plan i
-      → ((q : Pair (e .source) (e .destination) ws wd to)
+      → ((q : Pair (e .source) (e .destination) ws wd words (wordsPlace i))
       → (kind ≡ pairBecomes q (e .from) src .kind) × (out ≡ stored (layoutAt wd (e .destination)) (e .to) (pairBecomes q (e .from) src .raw) dst))
       → one ≡ raises kind → Left p src dst₀ (i + 1) out (raised + one)
   unfolding written raisedBy pair
   left-turn i raised kind dst out {one} {e} h left q leaf c =
       let here : Entry = entryAt plan ws (p .sourceText) wd (p .destinationText) i in
-      let g : (kind ≡ becomes here src .kind) × (out ≡ stored (layoutAt wd (planWord plan i 3)) (planWord plan i 0) (becomes here src .raw) dst) =
-      (rw q at leaf) (pair s d plan n ws wd to p i h) in
+      let g : (kind ≡ becomes here src .kind) × (out ≡ stored (layoutAt wd (destinationType plan i)) (toByte plan i) (becomes here src .raw) dst) =
+      (rw q at leaf) (pair s d plan n ws wd words p i h) in
       let next = rw (entries-next plan ws (p .sourceText) wd (p .destinationText) n i h) at left in
-      (rw (g .1, ← (leaf-layout wd (p .destinationText) (planWord plan i 3))) (next .0), rw (c, g .0) (omega (arith, next .1)))
+      (rw (g .1, ← (leaf-layout wd (p .destinationText) (destinationType plan i))) (next .0), rw (c, g .0) (omega (arith, next .1)))
 
   pub left-end : (i raised : ℕ) (dst : List ℕ) → n ≤ i → Left p src dst₀ i dst raised → (dst ≡ written (entriesOf p) src dst₀) × (raised ≡ raisedBy (entriesOf p) src)
   unfolding written raisedBy
@@ -111,7 +110,7 @@ module _ (s d : ℕ) (plan : List ℕ) (n : ℕ) (ws wd to : List ℕ) (p : Read
 
 -- ---- the first that raises
 
-module _ (s d : ℕ) (plan : List ℕ) (n : ℕ) (ws wd to : List ℕ) (p : Ready s d plan n ws wd to) (src : List ℕ) where
+module _ (s d : ℕ) (plan : List ℕ) (n : ℕ) (ws wd words : List ℕ) (p : Ready s d plan n ws wd words) (src : List ℕ) where
   -- none of the entries before i raises
   abbrev rest : ℕ → List Entry
   rest i = entriesFrom plan ws (p .sourceText) wd (p .destinationText) i (n - i)
@@ -119,21 +118,21 @@ module _ (s d : ℕ) (plan : List ℕ) (n : ℕ) (ws wd to : List ℕ) (p : Read
   pub first-start : firstBy (entriesOf p) src ≡ firstBy (entriesFrom plan ws (p .sourceText) wd (p .destinationText) 0 (n - 0)) src
   first-start = let e : n - 0 ≡ n = omega arith in rw e
 
-  first-here : (i kind : ℕ) {e : PlanEntry} → i < n → e ≡ wordsAt plan i → ((q : Pair (e .source) (e .destination) ws wd to) → kind ≡ pairBecomes q (e .from) src .kind)
+  first-here : (i kind : ℕ) {e : PlanEntry} → i < n → e ≡ wordsAt plan i → ((q : Pair (e .source) (e .destination) ws wd words (wordsPlace i)) → kind ≡ pairBecomes q (e .from) src .kind)
       → firstBy (rest i) src ≡ orElse (e .to) kind (firstBy (rest (i + 1)) src)
   unfolding firstBy pair
   first-here i kind {e} h q leaf =
       let here : Entry = entryAt plan ws (p .sourceText) wd (p .destinationText) i in
-      let g : kind ≡ becomes here src .kind = (rw q at leaf) (pair s d plan n ws wd to p i h) in
+      let g : kind ≡ becomes here src .kind = (rw q at leaf) (pair s d plan n ws wd words p i h) in
       rw (entries-next plan ws (p .sourceText) wd (p .destinationText) n i h, q, g)
 
   pub first-turn : (i kind : ℕ) {e : PlanEntry} → i < n → firstBy (entriesOf p) src ≡ firstBy (rest i) src → e ≡ wordsAt plan i
-      → ((q : Pair (e .source) (e .destination) ws wd to) → kind ≡ pairBecomes q (e .from) src .kind) → kind ≡ 0
+      → ((q : Pair (e .source) (e .destination) ws wd words (wordsPlace i)) → kind ≡ pairBecomes q (e .from) src .kind) → kind ≡ 0
       → firstBy (entriesOf p) src ≡ firstBy (rest (i + 1)) src
   first-turn i kind {e} h first q leaf z = first ∙ first-here i kind h q leaf ∙ rw z
 
   pub first-found : (i kind : ℕ) {e : PlanEntry} → i < n → firstBy (entriesOf p) src ≡ firstBy (rest i) src → e ≡ wordsAt plan i
-      → ((q : Pair (e .source) (e .destination) ws wd to) → kind ≡ pairBecomes q (e .from) src .kind) → (kind ≡ 0 → ⊥)
+      → ((q : Pair (e .source) (e .destination) ws wd words (wordsPlace i)) → kind ≡ pairBecomes q (e .from) src .kind) → (kind ≡ 0 → ⊥)
       → At (e .to) kind ≡ raisingOf (firstBy (entriesOf p) src)
   first-found i kind {e} h first q leaf z = rw (first, first-here i kind h q leaf) (go kind z)
     where
@@ -147,12 +146,11 @@ module _ (s d : ℕ) (plan : List ℕ) (n : ℕ) (ws wd to : List ℕ) (p : Read
 
 -- ---- words, and a count of one
 
-pub words-are : (plan : List ℕ) (i : ℕ) {a b c d : ℕ} → Reads (getD plan (4 * i) 0) a → Reads (getD plan (4 * i + 1) 0) b → Reads (getD plan (4 * i + 2) 0) c
-    → Reads (getD plan (4 * i + 3) 0) d
-    → _≡_ {A = PlanEntry} (record { to = a; from = b; source = c; destination = d }) (wordsAt plan i) × (a < 4294967296)
-words-are plan i ra rb rc rd =
-    let e : 4 * i + 0 ≡ 4 * i = omega arith in
-    (rw (e, ← (ra .is), ← (rb .is), ← (rc .is), ← (rd .is)), ra .small)
+pub words-are : (plan : List ℕ) (i : ℕ) {places types : ℕ} → Reads (getD plan (2 * i) 0) places → Reads (getD plan (2 * i + 1) 0) types
+    → (_≡_ {A = PlanEntry} (record { to = places / 4096; from = places % 4096; source = types / 64; destination = types % 64 }) (wordsAt plan i))
+    × (places / 4096 < 4294967296)
+unfolding toByte fromByte sourceType destinationType
+words-are plan i rp rt = (rw (← (rp .is), ← (rt .is)), omega (arith, rp .small))
 
 pub raises-one : (k : ℕ) → (k ≡ 0 → ⊥) → (1 ≡ raises k) × (1 ≤ 1)
 raises-one zero f = absurd (f refl)

@@ -5,21 +5,7 @@ use Rattle.plan_words.proofs.entry.Statement.{statement}
 use Rattle.plan_words.proofs.entry.Tie as tie
 
 returns : tie.Need-returns
-returns c = words-are (c .before .before .before .before .before .args .plan .now) (c .before .before .before .before .before .args .i) (c .before .before .before .at .ensures) (c .before .before .at2 .ensures) (c .before .at3 .ensures) (c .at4 .ensures)
+returns c = words-are (c .before .before .before .args .plan .now) (c .before .before .before .args .i) (c .before .at .ensures) (c .at2 .ensures)
 
 pub entry-spec : {M : Type 1} → statement M
-entry-spec =
-    tie.close
-    (tie.spec
-    (λ c. search needs)
-    (λ c κs. search needs)
-    (λ c. search needs)
-    (λ c. search needs)
-    (λ c κs. search needs)
-    (λ c. search needs)
-    (λ c. search needs)
-    (λ c κs. search needs)
-    (λ c. search needs)
-    (λ c. search needs)
-    (λ c κs. search needs)
-    returns)
+entry-spec = ?
