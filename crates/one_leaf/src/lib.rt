@@ -32,9 +32,17 @@ use number::sign::number_of;
 use number::sign::split;
 use placing::raw_at;
 use placing::store;
-use plans::NAMES;
 use row_lookup::row_numbered;
+use table::CLASS;
+use table::ENUM;
+use table::FIRST;
 use table::Found;
+use table::HIGH;
+use table::MOST_ROWS;
+use table::ROWS;
+use table::VALUE_HIGH;
+use table::VALUE_LOW;
+use table::VALUE_SIGN;
 use table::codes::flag_of;
 use table::codes::order_of;
 use table::read::layout_at;
@@ -44,17 +52,6 @@ use table::read::word;
 
 // The kind of exception where a symbol is missing.
 const NO_SYMBOL: u32 = 3;
-
-// Of a type's words: its class, which is this for an enum, its first row and how many rows it has.
-const CLASS: usize = 0;
-const ENUM: usize = 2;
-const FIRST: usize = 9;
-const ROWS: usize = 10;
-
-// Of a value's words: its sign, and the two halves of its distance.
-const SIGN: usize = 2;
-const LOW: usize = 3;
-const HIGH: usize = 4;
 
 // a - b, and 0 where b is larger.
 fn minus(a: u64, b: u64) -> u64
@@ -68,10 +65,10 @@ fn value_bits(w: &[u32], j: usize, precision: u32) -> u64
     requires { ⌜ precision ≤ 64 ⌝ }
     ensures { λ r. ⌜ r ≡ bitsOf precision (valueAt (now (w .entry)) j) ⌝ }
 {
-    let low = row_word(w, j, LOW);
-    let high = row_word(w, j, HIGH);
-    let distance = (low + high * 4294967296) as u64;
-    if flag_of(row_word(w, j, SIGN)) {
+    let low = row_word(w, j, VALUE_LOW);
+    let high = row_word(w, j, VALUE_HIGH);
+    let distance = (low + high * HIGH) as u64;
+    if flag_of(row_word(w, j, VALUE_SIGN)) {
         return minus(ones(precision), distance);
     }
     distance
@@ -137,7 +134,7 @@ fn row_alike(words: &[u32], id: usize, first: usize, n: usize) -> usize
     while 0 < left {
         left -= 1;
         let j = first + left;
-        if word(words, NAMES / 2 + j) == id {
+        if word(words, MOST_ROWS + j) == id {
             return j + 1;
         }
     }
