@@ -38,8 +38,8 @@ use table::codes::order_of;
 // Bytes that are read at once.
 pub const WINDOW: usize = 8;
 
-// How many numbers one word can hold.
-const WORD: u64 = 4294967296;
+// What one of the carry's high half is worth.
+const HIGH: u64 = 4294967296;
 
 // Word k of w.
 pub fn at(w: &[u32], k: usize) -> usize
@@ -86,7 +86,7 @@ pub fn carry_at(w: &[u32], k: usize) -> u64
     requires { ⌜ k + 4 ≤ length (now w) ⌝ }
     ensures { λ r. ⌜ r ≡ getD (now (w .entry)) (k + 1) 0 + getD (now (w .entry)) (k + 2) 0 * 4294967296 ⌝ }
 {
-    at(w, k + 1) as u64 + at(w, k + 2) as u64 * WORD
+    at(w, k + 1) as u64 + at(w, k + 2) as u64 * HIGH
 }
 
 // The same by the words from word k of w on.
@@ -197,8 +197,8 @@ fn put_easy(w: &mut [u32], k: usize, l: Layout, m: Layout)
 {
     let code = pack_easy(l, m);
     let carry = carry_of(l.signed, l.precision, m.precision);
-    let low = (carry % WORD) as u32;
-    let high = (carry / WORD) as u32;
+    let low = (carry % HIGH) as u32;
+    let high = (carry / HIGH) as u32;
     put_four(w, k, code, low, high, 0);
 }
 
