@@ -1,10 +1,10 @@
--- What the route of an entry tells of its leaf. Assumes nothing.
-use mathlib.Core.Path.{_≡_, refl, sym, ap, _∙_}
+-- What the route of an entry tells of its leaf: what the ways of converting it ask for, and what they give. Assumes nothing.
+use mathlib.Core.Path.{_≡_, refl, sym, ap, subst, _∙_}
 use mathlib.Core.List.{List}
-use Prim.Native.Nat.{ℕ, _+_, _≤_, _<_}
+use Prim.Native.Nat.{ℕ, _+_, _-_, _≤_, _<_}
 use native.Mathlib.Nat.{mod-lt}
 use native.Mathlib.Omega.{arith}
-use lib.ListN.{getD}
+use lib.ListN.{getD, length}
 use lib.Pow.{pow-pos}
 use Rattle.layout.specs.declared.Layout.{Layout}
 use Rattle.layout.specs.Layout.{Valid}
@@ -20,40 +20,71 @@ use Rattle.plans.specs.PlanWords.{wordsPlace, Pair, pairBecomes}
 use Rattle.plans.specs.PlanEntries.{EntryReady}
 use Rattle.plans.specs.declared.PlanEntry.{PlanEntry}
 use Rattle.plans.specs.LeafSteps.{EnumReady, EnumHere}
-use Rattle.plans.proofs.LeafSteps.{number-becomes, pair-valid}
+use Rattle.plans.proofs.LeafSteps.{number-becomes, number-stored, pair-valid}
 
+-- what the leaf of a pair became: the kind, and the bytes that were dst
+abbrev Became : ℕ → ℕ → List ℕ → List ℕ → List ℕ → ℕ → ℕ → ℕ → List ℕ → List ℕ → List ℕ → ℕ → Type 0
+Became s d ws wd words k a b src dst out kind =
+    (p : Pair s d ws wd words k) → (kind ≡ pairBecomes p a src .kind) × (out ≡ stored (layoutAt wd d) b (pairBecomes p a src .raw) dst)
+
+-- entry i, which is e; its words begin at word k, the first of them is w, and o is its route
 module _ {n m : ℕ} {e : PlanEntry} {i : ℕ} {ws wd words : List ℕ} (h : EntryReady n m e i ws wd words)
-    {w o : ℕ} (rw₀ : Reads (getD words (wordsPlace i) 0) w) (ro : (o ≡ routeIn w) × (o < 8)) where
-  route : routeIn (getD words (wordsPlace i) 0) ≡ o
-  route = sym (ro .0 ∙ ap routeIn (rw₀ .is))
+    {k w o : ℕ} (here : k ≡ wordsPlace i) (first : Reads (getD words k 0) w) (ro : (o ≡ routeIn w) × (o < 8)) where
+  pub route-is : routeIn (getD words (wordsPlace i) 0) ≡ o
+  route-is = rw (← here, ← (first .is)) (sym (ro .0))
 
-  pub not-enum : o < 3 → classWord wd (e .destination) ≡ 2 → ⊥
-  not-enum low = h .pair .entry .plain (rw route low)
+  not-enum : o < 3 → classWord wd (e .destination) ≡ 2 → ⊥
+  not-enum low = h .pair .entry .plain (rw route-is low)
 
-  pub easy-at : (o ≡ 0 → ⊥) → o < 3 → EasyAt (layoutAt ws (e .source)) (layoutAt wd (e .destination)) words (wordsPlace i)
-  easy-at some low = h .pair .entry .easy (rw route (omega arith)) (rw route low)
+  easy-here : (o ≡ 0 → ⊥) → o < 3 → EasyAt (layoutAt ws (e .source)) (layoutAt wd (e .destination)) words (wordsPlace i)
+  easy-here some low = h .pair .entry .easy (rw route-is (omega arith)) (rw route-is low)
 
-  module _ (some : o ≡ 0 → ⊥) (low : o < 3) (p : Pair (e .source) (e .destination) ws wd words (wordsPlace i)) (a : ℕ) (src : List ℕ) where
-    as-number : fitted (layoutAt wd (e .destination)) (numberAt (layoutAt ws (e .source)) a src) ≡ pairBecomes p a src
-    as-number = number-becomes p (not-enum low) a src
+  -- an easy pair
+  pub easy-at : (o ≡ 0 → ⊥) → o < 3 → EasyAt (layoutAt ws (e .source)) (layoutAt wd (e .destination)) words k
+  easy-at some low = rw here (easy-here some low)
 
-    pub easy-kind : 0 ≡ pairBecomes p a src .kind
-    easy-kind =
+  pub words-room : k + 4 ≤ length words
+  words-room = rw here (h .room)
+
+  module _ (some : o ≡ 0 → ⊥) (low : o < 3) (src : List ℕ) where
+    pub easy-kind : (p : Pair (e .source) (e .destination) ws wd words (wordsPlace i)) → 0 ≡ pairBecomes p (e .from) src .kind
+    easy-kind p =
         let l : Layout = layoutAt ws (e .source) in
-        let at = easy-at some low in
-        ap (λ (f : Fitted). f .kind) (number l (layoutAt wd (e .destination)) (at .is) (at .valid) (rawAt l a src) (mod-lt _ (pow-pos (l .precision))) .0)
-        ∙ ap (λ (f : Fitted). f .kind) as-number
+        let at = easy-here some low in
+        ap (λ (f : Fitted). f .kind) (number l (layoutAt wd (e .destination)) (at .is) (at .valid) (rawAt l (e .from) src) (mod-lt _ (pow-pos (l .precision))) .0)
+        ∙ ap (λ (f : Fitted). f .kind) (number-becomes p (not-enum low) (e .from) src)
 
-    pub easy-stored : (b : ℕ) (dst : List ℕ) {out : List ℕ}
-        → out ≡ stored (layoutAt wd (e .destination)) b (fitted (layoutAt wd (e .destination)) (numberAt (layoutAt ws (e .source)) a src) .raw) dst
-        → out ≡ stored (layoutAt wd (e .destination)) b (pairBecomes p a src .raw) dst
-    easy-stored b dst k = k ∙ ap (λ (f : Fitted). stored (layoutAt wd (e .destination)) b (f .raw) dst) as-number
+    pub easy-became : (dst out : List ℕ)
+        → out ≡ stored (layoutAt wd (e .destination)) (e .to) (fitted (layoutAt wd (e .destination)) (numberAt (layoutAt ws (e .source)) (e .from) src) .raw) dst
+        → Became (e .source) (e .destination) ws wd words (wordsPlace i) (e .from) (e .to) src dst out 0
+    easy-became dst out g p =
+        (easy-kind p, g ∙ ap (λ (f : Fitted). stored (layoutAt wd (e .destination)) (e .to) (f .raw) dst) (number-becomes p (not-enum low) (e .from) src))
 
-  pub enum-ready : 3 ≤ o → EnumReady n (e .from) (e .source) (e .destination) ws wd words (wordsPlace i)
-  enum-ready high = record { pair = h .pair; read = h .read; room = h .room; enum = rw route high }
+  -- any other number
+  pub number-kind-is : o < 3 → (src : List ℕ) {kind : ℕ} → kind ≡ fitted (layoutAt wd (e .destination)) (numberAt (layoutAt ws (e .source)) (e .from) src) .kind
+      → (p : Pair (e .source) (e .destination) ws wd words (wordsPlace i)) → kind ≡ pairBecomes p (e .from) src .kind
+  number-kind-is low src g p = g ∙ ap (λ (f : Fitted). f .kind) (number-becomes p (not-enum low) (e .from) src)
 
-  pub enum-here : 3 ≤ o → o < 5 → e .from + 8 ≤ n → EnumHere n m (e .to) (e .from) (e .source) (e .destination) ws wd words (wordsPlace i)
-  enum-here high fast room = record { pair = h .pair; read = room; write = h .write; room = h .room; enum = rw route high; fast = rw route fast }
+  pub number-became : o < 3 → (src dst out : List ℕ) {kind : ℕ}
+      → (kind ≡ fitted (layoutAt wd (e .destination)) (numberAt (layoutAt ws (e .source)) (e .from) src) .kind)
+      × (out ≡ stored (layoutAt wd (e .destination)) (e .to) (fitted (layoutAt wd (e .destination)) (numberAt (layoutAt ws (e .source)) (e .from) src) .raw) dst)
+      → Became (e .source) (e .destination) ws wd words (wordsPlace i) (e .from) (e .to) src dst out kind
+  number-became low src dst out {kind} g = number-stored src dst out (e .from) (e .to) (e .source) (e .destination) kind ws wd words (wordsPlace i) (not-enum low) g
+
+  -- an enum
+  pub enum-ready : 3 ≤ o → EnumReady n (e .from) (e .source) (e .destination) ws wd words k
+  enum-ready high = rw here (record { pair = h .pair; read = h .read; room = h .room; enum = rw route-is high })
+
+  pub enum-here : 3 ≤ o → o < 5 → e .from + 8 ≤ n → EnumHere n m (e .to) (e .from) (e .source) (e .destination) ws wd words k
+  enum-here high fast room = rw here (record { pair = h .pair; read = room; write = h .write; room = h .room; enum = rw route-is high; fast = rw route-is fast })
+
+  pub enum-kind-is : (src : List ℕ) {kind : ℕ} → ((p : Pair (e .source) (e .destination) ws wd words k) → kind ≡ pairBecomes p (e .from) src .kind)
+      → (p : Pair (e .source) (e .destination) ws wd words (wordsPlace i)) → kind ≡ pairBecomes p (e .from) src .kind
+  enum-kind-is src {kind} g = subst (λ (x : ℕ). (p : Pair (e .source) (e .destination) ws wd words x) → kind ≡ pairBecomes p (e .from) src .kind) here g
+
+  pub enum-became : (src dst out : List ℕ) {kind : ℕ} → Became (e .source) (e .destination) ws wd words k (e .from) (e .to) src dst out kind
+      → Became (e .source) (e .destination) ws wd words (wordsPlace i) (e .from) (e .to) src dst out kind
+  enum-became src dst out {kind} g = subst (λ (x : ℕ). Became (e .source) (e .destination) ws wd words x (e .from) (e .to) src dst out kind) here g
 
 -- the layouts of an entry are valid
 pub both-valid : {n m : ℕ} {e : PlanEntry} {i : ℕ} {ws wd words : List ℕ} → EntryReady n m e i ws wd words
