@@ -15,8 +15,6 @@ ghost use Rattle.easy.specs.Easy.{inside, easy, shiftOf, carryOf, easyWo
 ghost use Rattle.easy.specs.Words.{EasyBy, EasyAt};
 ghost use Rattle.entry_code.specs.Code.{packed};
 
-pub mod each;
-
 use bits::ByteAt;
 use bits::Order;
 use bits::bits_of;
