@@ -28,7 +28,7 @@ use Rattle.loops.proofs.Jobs.{ready, job-call}
 use Rattle.loops.proofs.CopyTurns.{start, turn}
 
 module _ {s d : ℕ} {plan : List ℕ} {n : ℕ} {ws wd words : List ℕ} (j : Job s d plan n ws wd words) (single : n ≡ 1) (e : PlanEntry) (q : e ≡ wordsAt plan 0)
-    {x o : ℕ} (rx : Reads (getD words (wordsPlace 0) 0) x) (ro : o ≡ routeIn x) (some : o ≡ 0 → ⊥) (small : o < 3)
+    {x o : ℕ} (rx : Reads (getD words (wordsPlace 0) 0) x) (ro : (o ≡ routeIn x) × (o < 8)) (some : o ≡ 0 → ⊥) (small : o < 3)
     (c : ℕ) (src dst₀ : List ℕ) (hs : c * s ≤ length src) (hd : c * d ≤ length dst₀) where
   abbrev l : Layout
   l = layoutAt ws (e .source)
@@ -42,26 +42,16 @@ module _ {s d : ℕ} {plan : List ℕ} {n : ℕ} {ws wd words : List ℕ} (j : J
   here : Ready s d plan n ws wd words
   here = ready j (le-refl s) (le-refl d)
 
-  -- the word is that of an easy pair
-  code : o ≡ routeIn (getD words (wordsPlace 0) 0)
-  code = ro ∙ ap routeIn (rx .is)
-
-  from-one : 1 ≤ routeIn (getD words (wordsPlace 0) 0)
-  from-one = omega (arith, code)
-
-  below : routeIn (getD words (wordsPlace 0) 0) < 3
-  below = omega (arith, code)
-
   -- eight bytes can be read at the leaf of each record but the last seven
   pub each-easy : (k : ℕ) → k ≡ c - 7 → {h p y z r : ℕ} → h ≡ shiftIn x → p ≡ precisionIn x
       → y ≡ getD words (wordsPlace 0 + 1) 0 + getD words (wordsPlace 0 + 2) 0 * 4294967296 → z ≡ sizeIn x → r ≡ orderIn x
       → EachEasy (layoutAt ws (e .source)) (layoutAt wd (e .destination)) k s d (e .to) (e .from) o h p y z r (length src) (length dst₀)
   each-easy k few rh rp ry rz rr =
-      let easy : EasyAt l m words (wordsPlace 0) = one-easy here single e q from-one below in
-      let from : e .from + l .size .0 ≤ s = one-read here single e q from-one below in
-      let into : e .to + m .size .0 ≤ d = one-write here single e q from-one below in
+      let easy : EasyAt l m words (wordsPlace 0) = one-easy here single e q rx ro some small in
+      let from : e .from + l .size .0 ≤ s = one-read here single e q rx ro some small in
+      let into : e .to + m .size .0 ≤ d = one-write here single e q rx ro some small in
       record {
-        easy = numbers-read l m words (wordsPlace 0) easy rx ro rh rp ry rz rr;
+        easy = numbers-read l m words (wordsPlace 0) easy rx (ro .0) rh rp ry rz rr;
         read = λ i low. let more : (i + 8) * s ≤ c * s = mul-le-mul-right s (omega arith) in omega (arith, easy .valid .some, easy .valid .inside);
         write = λ i low. let within : i * d + d ≤ c * d = row-within d (omega arith) in omega arith;
       }
@@ -79,8 +69,8 @@ module _ {s d : ℕ} {plan : List ℕ} {n : ℕ} {ws wd words : List ℕ} (j : J
       let ra : s ≤ length a = rw length-drop (omega (arith, row-within s h)) in
       let low : i * d ≤ length was = omega (arith, row-within d h, before .0) in
       let rb : d ≤ length b = rw length-drop (omega (arith, row-within d h, before .0)) in
-      let call = job-call j a b out 0 ra rb (λ t. one-written t single e q from-one below a b out refl) in
-      let long : length out ≡ length b = stored-length m (e .to) _ b (one-write (ready j ra rb) single e q from-one below) in
+      let call = job-call j a b out 0 ra rb (λ t. one-written t single e q rx ro some small a b out refl) in
+      let long : length out ≡ length b = stored-length m (e .to) _ b (one-write (ready j ra rb) single e q rx ro some small) in
       let whole : putMid (i * d) (length was - i * d) was out ≡ take (i * d) was ++ out = lent-whole (i * d) was out in
       let next = turn (j .source) (j .destination) (j .sourceFormed) (j .destinationFormed) s d (j .sourceSize) (j .destinationSize) c src dst₀ hd i 0 0 was out h (before .0) (before .1) call in (
         ap length (sym whole) ∙ lent-length (i * d) was out low (long ∙ sym (ap length (tail-lent (i * d) was))) ∙ before .0,

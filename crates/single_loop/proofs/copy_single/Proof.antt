@@ -34,7 +34,7 @@ read t =
     let x = u .before .before .before in
     let top = x .before .before .before .before .before .before .before .before .before in
     let a = top .args in
-    each-easy (top .pre .0) (x .before .before .if1 .left) (u .entry .result) (u .entry .ensures .0) (x .before .at .ensures) (x .route-in .ensures .0) (u .before .before .if2 .left) (omega (arith, u .before .if3 .left)) (a .c) (a .src .now) (a .dst .now) (top .pre .2) (top .pre .3) (t .all-but-last .result) (t .all-but-last .ensures) (t .before .before .before .before .before .shift-in .ensures .0) (t .before .before .before .before .precision-in .ensures .0) (t .before .before .before .carry-at .ensures) (t .before .before .size-in .ensures .0) (t .before .order-in .ensures .0)
+    each-easy (top .pre .0) (x .before .before .if1 .left) (u .entry .result) (u .entry .ensures .0) (x .before .at .ensures) (x .route-in .ensures) (u .before .before .if2 .left) (omega (arith, u .before .if3 .left)) (a .c) (a .src .now) (a .dst .now) (top .pre .2) (top .pre .3) (t .all-but-last .result) (t .all-but-last .ensures) (t .before .before .before .before .before .shift-in .ensures .0) (t .before .before .before .before .precision-in .ensures .0) (t .before .before .before .carry-at .ensures) (t .before .before .size-in .ensures .0) (t .before .order-in .ensures .0)
 
 each-sized-requires : tie.Need-each-sized-requires
 each-sized-requires c κs = (_, _, read (c .before))
@@ -47,7 +47,7 @@ returns-4 c =
     let top = x .before .before .before .before .before .before .before .before .before in
     let a = top .args in
     let most : t .all-but-last .result ≤ a .c = omega (arith, t .all-but-last .ensures) in
-    (most, λ j. each-done j (x .before .before .if1 .left) (u .entry .result) (u .entry .ensures .0) (x .before .at .ensures) (x .route-in .ensures .0) (u .before .before .if2 .left) (omega (arith, u .before .if3 .left)) (a .c) (a .src .now) (a .dst .now) (top .pre .2) (top .pre .3) (t .all-but-last .result) _ most (c .before .before .each-sized .ensures _ _ (read t)))
+    (most, λ j. each-done j (x .before .before .if1 .left) (u .entry .result) (u .entry .ensures .0) (x .before .at .ensures) (x .route-in .ensures) (u .before .before .if2 .left) (omega (arith, u .before .if3 .left)) (a .c) (a .src .now) (a .dst .now) (top .pre .2) (top .pre .3) (t .all-but-last .result) _ most (c .before .before .each-sized .ensures _ _ (read t)))
 
 pub copy-single-spec : {M : Type 1} → statement M
 copy-single-spec =
