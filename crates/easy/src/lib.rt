@@ -14,9 +14,6 @@ ghost use mathlib.Core.Bool.{_&&_};
 ghost use Rattle.easy.specs.Easy.{inside, easy, shiftOf, carryOf, easyWords, wordsOf, withWords};
 ghost use Rattle.easy.specs.Words.{EasyBy, EasyAt};
 ghost use Rattle.entry_code.specs.Code.{packed};
-
-pub mod each;
-
 use bits::ByteAt;
 use bits::Order;
 use bits::bits_of;

@@ -1,8 +1,8 @@
--- `easy::each::each_sized` meets its contract. Assumes nothing.
+-- `easy_loop::each_sized` meets its contract. Assumes nothing.
 use mathlib.Core.Path.{_≡_}
 use borrow.Author.Needs.{needs}
-use Rattle.easy.proofs.each.each_sized.Statement.{statement}
-use Rattle.easy.proofs.each.each_sized.Tie as tie
+use Rattle.easy_loop.proofs.each_sized.Statement.{statement}
+use Rattle.easy_loop.proofs.each_sized.Tie as tie
 
 each-1-requires : tie.Need-each-1-requires
 each-1-requires c κs =

@@ -2,8 +2,8 @@
 ghost use mathlib.Core.Path.{_≡_};
 ghost use lib.ListN.{length};
 ghost use Rattle.layout.specs.declared.Layout.{Layout};
 ghost use Rattle.easy.specs.Each.{EachEasy, eachLeaf};
-use crate::convert_by;
+use easy::convert_by;
 use entry_code::EASY_BE;
 use entry_code::EASY_LE;
 

@@ -1,7 +1,7 @@
--- `easy::each::each_le` meets its contract. Assumes nothing.
+-- `easy_loop::each_le` meets its contract. Assumes nothing.
 use borrow.Author.Needs.{needs}
-use Rattle.easy.proofs.each.each_le.Statement.{statement}
-use Rattle.easy.proofs.each.each_le.Tie as tie
+use Rattle.easy_loop.proofs.each_le.Statement.{statement}
+use Rattle.easy_loop.proofs.each_le.Tie as tie
 
 each-by-requires : tie.Need-each-by-requires
 each-by-requires c κs = let p = c .before .before .before .pre in (p .0 .0, p .0 .1, rw (p .1) at (p .0 .2))

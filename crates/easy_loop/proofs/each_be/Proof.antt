@@ -1,8 +1,8 @@
--- `easy::each::each_be` meets its contract. Assumes nothing.
+-- `easy_loop::each_be` meets its contract. Assumes nothing.
 use borrow.Author.Needs.{needs}
-use Rattle.easy.proofs.EachTurns.{other-order}
-use Rattle.easy.proofs.each.each_be.Statement.{statement}
-use Rattle.easy.proofs.each.each_be.Tie as tie
+use Rattle.easy_loop.proofs.EachTurns.{other-order}
+use Rattle.easy_loop.proofs.each_be.Statement.{statement}
+use Rattle.easy_loop.proofs.each_be.Tie as tie
 
 each-by-requires : tie.Need-each-by-requires
 each-by-requires c κs = let p = c .before .before .before .pre in (p .0 .0, p .0 .1, rw (other-order _ _ (p .0 .2) (p .1)) at (p .0 .2))

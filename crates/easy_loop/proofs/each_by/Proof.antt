@@ -1,14 +1,14 @@
--- `easy::each::each_by` meets its contract. The loop's invariant: the leaves of the first i records are written. Assumes nothing.
+-- `easy_loop::each_by` meets its contract. The loop's invariant: the leaves of the first i records are written. Assumes nothing.
 use mathlib.Core.Path.{_≡_, refl, _∙_}
 use Prim.Native.Nat.{_≤_, _-_, _*_, _+_}
 use native.Mathlib.Omega.{arith}
 use lib.ListN.{length}
 use Rattle.layout.specs.declared.Layout.{Layout}
 use Rattle.easy.specs.Each.{EachEasy, eachLeaf}
 use Rattle.easy.proofs.Lent.{lent-room, lent-length}
-use Rattle.easy.proofs.EachTurns.{each-start, each-turn}
-use Rattle.easy.proofs.each.each_by.Statement.{statement}
-use Rattle.easy.proofs.each.each_by.Tie as tie
+use Rattle.easy_loop.proofs.EachTurns.{each-start, each-turn}
+use Rattle.easy_loop.proofs.each_by.Statement.{statement}
+use Rattle.easy_loop.proofs.each_by.Tie as tie
 
 abbrev Inv-loop : tie.InvT-loop
 Inv-loop src dst₀ c s d b a order shift p carry size into i₀ dst i =
