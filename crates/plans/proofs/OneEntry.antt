@@ -14,7 +14,7 @@ use Rattle.plans.specs.declared.PlanEntry.{PlanEntry}
 use Rattle.records.specs.Plan.{written, raisedBy}
 use Rattle.plans.specs.PlanWords.{Ready, entriesOf, wordsPlace}
 use Rattle.plans.specs.PlanEntries.{wordsAt, EntryReady}
-use Rattle.plans.proofs.EasyLeaves.{easy-at, easy-kind, easy-stored}
+use Rattle.plans.proofs.EasyLeaves.{easy-at, easy-became}
 use Rattle.plans.proofs.Entries.{entry-ready, left-start, left-turn, left-end}
 
 module _ {s d : ℕ} {plan : List ℕ} {n : ℕ} {ws wd words : List ℕ} (p : Ready s d plan n ws wd words) (single : n ≡ 1) (e : PlanEntry) (q : e ≡ wordsAt plan 0)
@@ -23,7 +23,7 @@ module _ {s d : ℕ} {plan : List ℕ} {n : ℕ} {ws wd words : List ℕ} (p : R
   one = entry-ready s d plan n ws wd words p 0 (omega arith) e q
 
   pub one-easy : EasyAt (layoutAt ws (e .source)) (layoutAt wd (e .destination)) words (wordsPlace 0)
-  one-easy = easy-at one rx ro some low
+  one-easy = easy-at one refl rx ro some low
 
   pub one-read : e .from + layoutAt ws (e .source) .size .0 ≤ s
   one-read = one .read
@@ -37,5 +37,5 @@ module _ {s d : ℕ} {plan : List ℕ} {n : ℕ} {ws wd words : List ℕ} (p : R
   one-written src dst out h =
       left-end s d plan n ws wd words p src dst 1 0 out (omega arith)
       (left-turn s d plan n ws wd words p src dst 0 0 0 dst out (omega arith) (left-start s d plan n ws wd words p src dst) q
-      (λ r. (easy-kind one rx ro some low r (e .from) src, easy-stored one rx ro some low r (e .from) src (e .to) dst h))
+      (easy-became one refl rx ro some low src dst out h)
       refl)

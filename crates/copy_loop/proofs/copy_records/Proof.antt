@@ -15,12 +15,12 @@ use Rattle.copy_loop.proofs.copy_records.Statement.{statement}
 use Rattle.copy_loop.proofs.copy_records.Tie as tie
 
 abbrev Inv-loop : tie.InvT-loop
-Inv-loop src dst₀ c s d plan n ws wd to total₀ i₀ dst total i =
+Inv-loop src dst₀ c s d plan n ws wd words total₀ i₀ dst total i =
     (i ≤ c) × (length dst ≡ length dst₀) × (total ≤ 4096 * i)
-    × ((j : Job s d plan n ws wd to) (was : List ℕ) → length dst₀ ≡ length was → c * d ≤ length was → Done (j .source) (j .destination) d c src was i₀ dst₀ 0 → Done (j .source) (j .destination) d c src was i dst total)
+    × ((j : Job s d plan n ws wd words) (was : List ℕ) → length dst₀ ≡ length was → c * d ≤ length was → Done (j .source) (j .destination) d c src was i₀ dst₀ 0 → Done (j .source) (j .destination) d c src was i dst total)
 
 abbrev μ-loop : tie.MeasureT-loop
-μ-loop src dst₀ c s d plan n ws wd to total₀ i₀ dst total i = c - i
+μ-loop src dst₀ c s d plan n ws wd words total₀ i₀ dst total i = c - i
 
 -- record i lies within both
 rows : (c : tie.In-loop Inv-loop μ-loop)
