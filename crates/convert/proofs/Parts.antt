@@ -7,7 +7,6 @@ use Prim.Native.Nat.{ℕ, zero, suc, _+_, _-_, _*_, _^_, _≤_, _<_, max}
 use native.Mathlib.Nat.{le-trans, mul-le-mul-left, mul-le-mul-right}
 use native.Mathlib.Numerals.{add-one}
 use native.Mathlib.Omega.{arith}
-use lib.Pow.{pow-mono}
 use borrow.Author.Tests.{le-leb, lt-leb, leb-true, leb-false}
 use lib.Dec.{leb}
 use lib.ListN.{length}
@@ -18,17 +17,13 @@ use Rattle.datatype.specs.Symbols.{onSome}
 use Rattle.datatype.specs.Paths.{hasPath}
 use Rattle.datatype.specs.WellFormed.{WellFormed}
 use Rattle.datatype.proofs.Matches.{size-most}
-use Rattle.table.specs.Table.{typeAt, layoutAt}
 use Rattle.sheet.specs.Sheet.{sheetOf}
 use Rattle.sheet.specs.Sheet.Sheet.{ofType, faultyAt}
 use Rattle.records.specs.Record.{reading, kindAt, firstRaising}
 use Rattle.records.specs.Records.{recordAt, readings, exceptions}
 use Rattle.records.specs.Plan.{planOf, Raised, firstBy}
 use Rattle.records.specs.Plan.Raised.{nowhere, at}
-use Rattle.plans.specs.PlanWords.{Job, Translates, planWord}
-use Rattle.plans.specs.PlanEntries.{NumbersPut, EntriesPut}
 use Rattle.records.proofs.Plans.{plan-first}
-use Rattle.paths.specs.Plan.{Planned}
 use Rattle.loops.specs.declared.Stop.{Stop}
 use Rattle.loops.specs.declared.Stop.the-variants.{At, Nowhere}
 use Rattle.loops.specs.Stops as stops
@@ -36,7 +31,7 @@ use Rattle.loops.specs.Stops.{stopBy}
 use Rattle.runs.specs.Run.{Form, Checked, handled, target, result, ifDone, hasRoom, stopFrom, typeChecks, sheetChecks}
 use Rattle.runs.specs.Run.Form.{copying, inPlace}
 use Rattle.runs.specs.Run.Checked.{refused, passed}
-use Rattle.convert.specs.Call.{first, second, IsSheet, Both, Leaves}
+use Rattle.convert.specs.Call.{Leaves}
 use Rattle.runs.proofs.Exceptions.{handled-quiet}
 
 -- ---- a refusal
@@ -89,34 +84,6 @@ module _ (form : Form) (n : ℕ) (source background : List ℕ) (S D : Datatype)
         let quiet : handled h S D n (readings S D source) ≡ answer.Done 0 = handled-as ∙ ap said e in
         let none : exceptions S D n (readings S D source) ≡ 0 = handled-quiet S D h n (readings S D source) quiet in
         record { answers = ap answer.Done (done .1 ∙ none) ∙ sym quiet; leaves = done .0 ∙ sym (ap left-by quiet) }
-
--- ---- the plan is made
-
-unfoldable pub job : (ss ws : List ℕ) (i : ℕ) (ds wd : List ℕ) (k s d : ℕ) (before plan first mid to : List ℕ) (n : ℕ) → Both ss ws i ds wd k s d → length before ≡ 16384
-    → Planned ws ss i wd ds k before plan n → Translates first ws ss wd ds → length first ≡ 65536 → NumbersPut first ws mid → EntriesPut mid plan n ws wd to → Job s d plan n ws wd to
-job ss ws i ds wd k s d before plan first mid to n both long planned translates words numbers put =
-    record {
-      source = typeAt ws ss i;
-      destination = typeAt wd ds k;
-      sourceFormed = both .source;
-      destinationFormed = both .destination;
-      sourceSize = both .sourceSize;
-      destinationSize = both .destinationSize;
-      sourceText = ss;
-      destinationText = ds;
-      room = omega (arith, planned .room, planned .most);
-      entries = planned .entries;
-      sourceRows = λ e h. both .sourceRows (planWord plan e 2);
-      destinationRows = λ e h. both .destinationRows (planWord plan e 3);
-      translates = λ d j hd hj class inside. put .below (d * 256 + j) (omega arith) ∙ numbers .below (d * 256 + j) (omega arith) ∙ translates d j hd hj class inside;
-      numbers =
-          λ s bits hs class inside some most fits.
-          let few : 2 ^ layoutAt ws s .precision ≤ 2 ^ 8 = pow-mono most in
-          put .below (16384 + (s * 256 + bits)) (omega arith) ∙ numbers .numbers s bits hs class inside some most fits;
-      most = planned .most;
-      words = omega (arith, put .long, numbers .long, planned .most);
-      easy = put .each;
-    }
 
 -- ---- checks 5 to 7
 

@@ -35,7 +35,7 @@ loop-holds c = (c .before .before .copy-single .ensures .0, refl, omega arith, �
 -- what the call for record i leaves, and counts
 called : (c : tie.After-write-record Inv-loop μ-loop)
     → (let a = c .before .before .before .before .before .before .before .before .before .before .before .before .before .before .before .args in let l = c .before .before .before .before .loop in
-    (j : Job (a .s) (a .d) (a .plan .now) (a .n) (a .ws .now) (a .wd .now) (a .to .now))
+    (j : Job (a .s) (a .d) (a .plan .now) (a .n) (a .ws .now) (a .wd .now) (a .words .now))
     → (c .write-record .last .1 .0 ≡ recordBy j (take (a .s) (drop (l .i * a .s) (a .src .now))) (take (a .d) (drop (l .i * a .d) (l .dst))) ++ drop (a .d) (drop (l .i * a .d) (l .dst)))
     × (c .write-record .result ≡ raisedOf j (take (a .s) (drop (l .i * a .s) (a .src .now)))))
 called c j =
