@@ -1,17 +1,17 @@
 -- A leaf's number on its way through the words of a table, step by step. Assumes nothing.
 use mathlib.Core.Path.{_≡_, refl, sym, ap, subst, _∙_}
-use mathlib.Core.Bool.{Bool, true, false, cond, _&&_}
+use mathlib.Core.Bool.{Bool, true, false, cond}
 use mathlib.Core.List.{List}
 use mathlib.Core.Option.{none}
 use Prim.Native.Nat.{ℕ, zero, suc, _+_, _*_, _-_, _^_, _≤_, _<_}
-use native.Mathlib.Nat.{le-refl, not-suc-le-zero}
-use native.Mathlib.Numerals.{add-one, sub-one}
+use native.Mathlib.Nat.{not-suc-le-zero}
+use native.Mathlib.Numerals.{add-one}
 use native.Mathlib.Omega.{arith}
-use lib.Dec.{eqb, leb, ltb}
+use lib.Dec.{eqb}
 use lib.IntN.{ℤ}
 use lib.ListN.{length, getD}
 use lib.Signed.{ltZ}
-use borrow.Author.Tests.{eq-eqb, ne-eqb, ltb-true, le-leb, lt-leb, lt-ltb, le-ltb}
+use borrow.Author.Tests.{eq-eqb, ne-eqb, le-leb, lt-leb, lt-ltb, le-ltb}
 use Rattle.layout.specs.declared.Layout.{Layout}
 use Rattle.layout.specs.Layout.{Valid}
 use Rattle.number.specs.declared.Number.{Number}
@@ -27,7 +27,7 @@ use Rattle.datatype.specs.WellFormed.{WellFormedLeaf, Symbols}
 use Rattle.datatype.proofs.Ways.{valid}
 use Rattle.table.specs.declared.Found.{Found}
 use Rattle.table.specs.declared.Found.the-variants.{At, Missing}
-use Rattle.table.specs.Table.{typeWord, rowWord, classWord, firstWord, rowsWord, flagOf, layoutAt, nameAt, valueAt, symbolsAt}
+use Rattle.table.specs.Table.{rowWord, classWord, firstWord, rowsWord, flagOf, layoutAt, nameAt, valueAt, symbolsAt}
 use Rattle.table.specs.Words.{Reads}
 use Rattle.table.specs.Rows.{rowNamed, rowNumbered, valueFound, nameFound}
 use Rattle.table.proofs.Lookups.{symbol-named, symbol-numbered}
@@ -137,6 +137,10 @@ module _ (words : List ℕ) (id first : ℕ) where
       let s : suc n - 1 ≡ n = omega arith in
       rw (s, ne-eqb (getD words (256 + (first + n)) 0) id (λ q. e (simp s at (r .is) ∙ q)))
 
+pub alike-read : (words wd : List ℕ) (j d : ℕ) {id first rows r : ℕ} → Reads (getD words j 0) id → Reads (firstWord wd d) first → Reads (rowsWord wd d) rows
+    → r ≡ rowCode (rowAlike words id first rows) → r ≡ rowCode (rowAlike words (getD words j 0) (firstWord wd d) (rowsWord wd d))
+alike-read words wd j d ri rf rr h = h ∙ rw (ri .is, rf .is, rr .is)
+
 pub looked-found : (words ws wd : List ℕ) (z : ℤ) (s d : ℕ) {first rows j r : ℕ} {f : Found} → Reads (firstWord ws s) first → (rows ≡ symbolRows ws s) × (rows < 4294967296)
     → f ≡ rowNumbered ws z first rows → f ≡ At j → r ≡ rowCode (rowAlike words (getD words j 0) (firstWord wd d) (rowsWord wd d)) → r ≡ lookedCode words ws wd s d z
 looked-found words ws wd z s d rf rr e q h = rw (← (rf .is), ← (rr .0), ← e, q) h
@@ -216,10 +220,6 @@ pub code-here : (src : List ℕ) (a s d : ℕ) (ws wd words : List ℕ) (k : ℕ
     → ((p : Pair s d ws wd words k) → code ≡ translatedCode ws (p .sourceText) wd (p .destinationText) s d raw)
     → (p : Pair s d ws wd words k) → code ≡ translatedCode ws (p .sourceText) wd (p .destinationText) s d (rawAt (layoutAt ws s) a src)
 code-here src a s d ws wd words k el er h p = h p ∙ rw (er, el)
-
-pub alike-read : (words wd : List ℕ) (j d : ℕ) {id first rows r : ℕ} → Reads (getD words j 0) id → Reads (firstWord wd d) first → Reads (rowsWord wd d) rows
-    → r ≡ rowCode (rowAlike words id first rows) → r ≡ rowCode (rowAlike words (getD words j 0) (firstWord wd d) (rowsWord wd d))
-alike-read words wd j d ri rf rr h = h ∙ rw (ri .is, rf .is, rr .is)
 
 -- ---- a leaf's number
 

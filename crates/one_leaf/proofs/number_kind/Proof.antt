@@ -1,5 +1,4 @@
 -- `one_leaf::number_kind` meets its contract. Assumes nothing.
-use mathlib.Core.Path.{refl}
 use borrow.Author.Needs.{needs}
 use Rattle.one_leaf.proofs.number_kind.Statement.{statement}
 use Rattle.one_leaf.proofs.number_kind.Tie as tie
