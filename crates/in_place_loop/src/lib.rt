@@ -51,7 +51,19 @@ fn replace_up(
     let mut total: u64 = 0;
     let mut i: usize = 0;
     while i < c {
-        total += replace_record(buf, background, &mut staging, i, s, d, plan, n, ws, wd, words);
+        total += replace_record(
+            buf,
+            background,
+            &mut staging,
+            i,
+            s,
+            d,
+            plan,
+            n,
+            ws,
+            wd,
+            words,
+        );
         i += 1;
     }
     total
@@ -78,7 +90,19 @@ fn replace_down(
     let mut i = c;
     while 0 < i {
         i -= 1;
-        total += replace_record(buf, background, &mut staging, i, s, d, plan, n, ws, wd, words);
+        total += replace_record(
+            buf,
+            background,
+            &mut staging,
+            i,
+            s,
+            d,
+            plan,
+            n,
+            ws,
+            wd,
+            words,
+        );
     }
     total
 }

@@ -11,8 +11,8 @@ use Rattle.two_sheets.specs.TwoSheets.{first, second, Both}
 use Rattle.runs.specs.Run.{Form, Checked, onChecked, handled, target, result, ifDone, typeChecks, sheetChecks}
 use Rattle.runs.specs.Run.Form.{copying, inPlace}
 use Rattle.runs.specs.Run.Checked.{refused, passed}
-use Rattle.convert.specs.declared.Checks.{Checks}
-use Rattle.convert.specs.declared.Checks.the-variants.{Refuse, Pass}
+use Rattle.conversion.specs.declared.Checks.{Checks}
+use Rattle.conversion.specs.declared.Checks.the-variants.{Refuse, Pass}
 
 -- ---- behind some checks, of which c says what is left of them
 
@@ -43,13 +43,13 @@ backgroundOf false out other = out
 backgroundOf true out other = other
 
 abbrev pub LeavesIn : Bool → ℕ → ℕ → List ℕ → List ℕ → Checked → Answer → List ℕ → Type 0
-LeavesIn inPlace handling n out other c r after = Leaves (formOf inPlace) handling n (sourceOf inPlace out other) (backgroundOf inPlace out other) c r after
+LeavesIn replaces handling n out other c r after = Leaves (formOf replaces) handling n (sourceOf replaces out other) (backgroundOf replaces out other) c r after
 
 -- the records were converted, and r exceptions counted
 abbrev pub ConvertsIn : Bool → Datatype → Datatype → ℕ → List ℕ → List ℕ → List ℕ → ℕ → Type 0
-ConvertsIn inPlace S D n out other after r =
-    (after ≡ result (formOf inPlace) S D n (sourceOf inPlace out other) (backgroundOf inPlace out other))
-    × (r ≡ exceptions S D n (readings S D (sourceOf inPlace out other)))
+ConvertsIn replaces S D n out other after r =
+    (after ≡ result (formOf replaces) S D n (sourceOf replaces out other) (backgroundOf replaces out other))
+    × (r ≡ exceptions S D n (readings S D (sourceOf replaces out other)))
 
 -- n records of s and of d bytes, which the buffers, by their lengths, have room for
 abbrev pub HasRecords : Bool → ℕ → ℕ → ℕ → ℕ → ℕ → Type 0
@@ -59,25 +59,25 @@ HasRecords true n s d out other = (n ≤ 65536) × (n * s ≤ out) × (n * d ≤
 -- ---- checks 3 to 7, of two sheets, a count and the lengths of the buffers
 
 abbrev pub sheetsChecked : Bool → List ℕ → List ℕ → ℕ → ℕ → ℕ → Checked
-sheetsChecked inPlace ss ds n out other = sheetChecks (formOf inPlace) ss ds n (sourceOf inPlace out other) (backgroundOf inPlace out other)
+sheetsChecked replaces ss ds n out other = sheetChecks (formOf replaces) ss ds n (sourceOf replaces out other) (backgroundOf replaces out other)
 
 abbrev pub typesChecked : Bool → ℕ → ℕ → ℕ → Datatype → Datatype → Checked
-typesChecked inPlace n out other S D = typeChecks (formOf inPlace) n (sourceOf inPlace out other) (backgroundOf inPlace out other) S D
+typesChecked replaces n out other S D = typeChecks (formOf replaces) n (sourceOf replaces out other) (backgroundOf replaces out other) S D
 
 -- type i of the half ws and type k of the half wd, which no check refuses
-pub record Passes (inPlace : Bool) (ss ds : List ℕ) (n out other : ℕ) (ws : List ℕ) (i : ℕ) (wd : List ℕ) (k : ℕ) : Type 0 where
+pub record Passes (replaces : Bool) (ss ds : List ℕ) (n out other : ℕ) (ws : List ℕ) (i : ℕ) (wd : List ℕ) (k : ℕ) : Type 0 where
   pub types : Both ss ws i ds wd k
-  pub records : HasRecords inPlace n (size (typeAt ws ss i)) (size (typeAt wd ds k)) out other
+  pub records : HasRecords replaces n (size (typeAt ws ss i)) (size (typeAt wd ds k)) out other
 
 -- r says what the checks of the types i and k say
 abbrev pub TypesSay : Bool → List ℕ → List ℕ → ℕ → ℕ → ℕ → List ℕ → ℕ → List ℕ → ℕ → Checks → Type 0
-TypesSay inPlace ss ds n out other ws i wd k (Refuse a) = typesChecked inPlace n out other (typeAt ws ss i) (typeAt wd ds k) ≡ refused a
-TypesSay inPlace ss ds n out other ws i wd k (Pass i′ k′) =
-    (i′ ≡ i) × (k′ ≡ k) × (typesChecked inPlace n out other (typeAt ws ss i) (typeAt wd ds k) ≡ passed (typeAt ws ss i) (typeAt wd ds k))
-    × Passes inPlace ss ds n out other ws i wd k
+TypesSay replaces ss ds n out other ws i wd k (Refuse a) = typesChecked replaces n out other (typeAt ws ss i) (typeAt wd ds k) ≡ refused a
+TypesSay replaces ss ds n out other ws i wd k (Pass i′ k′) =
+    (i′ ≡ i) × (k′ ≡ k) × (typesChecked replaces n out other (typeAt ws ss i) (typeAt wd ds k) ≡ passed (typeAt ws ss i) (typeAt wd ds k))
+    × Passes replaces ss ds n out other ws i wd k
 
 -- r says what the checks of the sheets say, whose types then stand in the halves of the table w
 abbrev pub SheetsSay : Bool → List ℕ → List ℕ → ℕ → ℕ → ℕ → List ℕ → Checks → Type 0
-SheetsSay inPlace ss ds n out other w (Refuse a) = sheetsChecked inPlace ss ds n out other ≡ refused a
-SheetsSay inPlace ss ds n out other w (Pass i k) =
-    (sheetsChecked inPlace ss ds n out other ≡ passed (typeAt (first w) ss i) (typeAt (second w) ds k)) × Passes inPlace ss ds n out other (first w) i (second w) k
+SheetsSay replaces ss ds n out other w (Refuse a) = sheetsChecked replaces ss ds n out other ≡ refused a
+SheetsSay replaces ss ds n out other w (Pass i k) =
+    (sheetsChecked replaces ss ds n out other ≡ passed (typeAt (first w) ss i) (typeAt (second w) ds k)) × Passes replaces ss ds n out other (first w) i (second w) k

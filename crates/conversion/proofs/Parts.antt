@@ -31,7 +31,7 @@ use Rattle.loops.specs.Stops.{stopBy}
 use Rattle.runs.specs.Run.{Form, Checked, handled, target, result, ifDone, hasRoom, stopFrom, typeChecks, sheetChecks}
 use Rattle.runs.specs.Run.Form.{copying, inPlace}
 use Rattle.runs.specs.Run.Checked.{refused, passed}
-use Rattle.convert.specs.Call.{Leaves}
+use Rattle.conversion.specs.Call.{Leaves}
 use Rattle.runs.proofs.Exceptions.{handled-quiet}
 
 -- ---- a refusal

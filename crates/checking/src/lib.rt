@@ -4,16 +4,18 @@ ghost use Prim.Native.Nat.{_≤_};
 ghost use lib.ListN.{length};
 ghost use Rattle.runs.specs.Run.{hasRoom};
 ghost use Rattle.two_sheets.specs.TwoSheets.{ReadAs, Both};
-ghost use Rattle.convert.specs.Call.{formOf, sourceOf, backgroundOf, TypesSay, SheetsSay};
-use crate::Checks;
-use crate::MOST_RECORDS;
+ghost use Rattle.conversion.specs.Call.{formOf, sourceOf, backgroundOf, TypesSay, SheetsSay};
 use answer::Answer;
+use conversion::Checks;
 use path_search::has_path;
 use table::HALF;
 use table::SIZE;
 use table::read::type_word;
 use two_sheets::Sheets;
 use two_sheets::read_sheets;
+
+// "6 COUNT: n above 65,536"
+const MOST_RECORDS: u64 = 65536;
 
 // Whether the buffers, by their lengths, have room for c records of s bytes and as many of d bytes: `out` is the one that is written.
 fn has_room(in_place: bool, c: usize, s: usize, d: usize, out: usize, other: usize) -> bool

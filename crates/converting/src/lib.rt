@@ -6,7 +6,7 @@ ghost use Rattle.records.specs.Plan.{planOf};
 ghost use Rattle.plans.specs.PlanWords.{Job};
 ghost use Rattle.loops.specs.Stops.{stopBy};
 ghost use Rattle.runs.specs.Run.Checked.{passed};
-ghost use Rattle.convert.specs.Call.{sourceOf, backgroundOf, HasRecords, ConvertsIn, LeavesIn};
+ghost use Rattle.conversion.specs.Call.{sourceOf, backgroundOf, HasRecords, ConvertsIn, LeavesIn};
 use answer::Answer;
 use copy_loop::copy_records;
 use in_place_loop::replace_records;

@@ -17,10 +17,10 @@ use Rattle.datatype.specs.Paths.{hasPath}
 use Rattle.sheet.specs.Sheet.{Sheet, sheetOf}
 use Rattle.sheet.specs.Sheet.Sheet.{ofType, faultyAt}
 use Rattle.records.specs.Records.{readings}
-use Rattle.runs.specs.Run.{Form, Run, Checked, handled, target, require, withSheet, hasRoom, typeChecks, sheetChecks, checksOf, checks, answer, after, cleared, tableAfter}
+use Rattle.runs.specs.Run.{Form, Run, Checked, handled, target, require, withSheet, hasRoom, typeChecks, sheetChecks, checksOf, checks, answer, after, cleared, tableAfter, Answers}
 use Rattle.runs.specs.Run as run
 use Rattle.runs.specs.Run.Checked.{refused, passed}
-use Rattle.convert.specs.Call.{Answers, answered, Leaves}
+use Rattle.conversion.specs.Call.{answered, Leaves}
 use Rattle.runs.proofs.Checks.{done-is, stop-is}
 use Rattle.runs.proofs.Exceptions.{handled-number}
 
