@@ -1,6 +1,6 @@
 // The records of a call, behind its checks and with its plan made.
 ghost use mathlib.Core.Path.{_≡_};
-ghost use Prim.Native.Nat.{_*_, _≤_};
+ghost use Prim.Native.Nat.{ℕ, _*_, _≤_};
 ghost use lib.ListN.{length};
 ghost use Rattle.records.specs.Plan.{planOf};
 ghost use Rattle.plans.specs.PlanWords.{Job};
