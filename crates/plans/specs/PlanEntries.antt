@@ -39,7 +39,7 @@ pub record PairFormed (ws ts wd td : List ℕ) (s d : ℕ) : Type 0 where
 
 -- the words of an entry, whose span lies between `start` and `free`
 pub record Standing (words : List ℕ) (k start free : ℕ) (ws ts wd td : List ℕ) (s d : ℕ) : Type 0 where
-  pub words : EntryWords words k ws ts wd td s d
+  pub entry : EntryWords words k ws ts wd td s d
   pub bounds : 3 ≤ routeIn (getD words k 0) → routeIn (getD words k 0) < 6 → (start ≤ getD words (k + 3) 0) × (getD words (k + 3) 0 + getD words (k + 2) 0 ≤ free)
 
 -- those of one entry, from word k on, put into `before`: words below k and those from behind them up to `free` are as they were, and spans now end at `next`
