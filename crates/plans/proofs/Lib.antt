@@ -1,6 +1,6 @@
 pub mod LeafSteps
 pub mod Entries
 pub mod OneEntry
-pub mod Translations
+pub mod Spans
 pub mod EnumWords
 pub mod EasyLeaves
