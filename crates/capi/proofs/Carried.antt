@@ -5,7 +5,7 @@ use Prim.Native.Nat.{ℕ}
 use Rattle.answer.specs.declared.Answer.{Answer}
 use Rattle.answer.specs.Answer.{numberOf}
 use Rattle.runs.specs.Run.{Run, answer, after, tableAfter}
-use Rattle.convert.specs.Call.{Answers}
+use Rattle.runs.specs.Run.{Answers}
 use Rattle.capi.specs.Calls.{wordsOf, Gives, Called, Converts}
 
 pub carried : {a b : Answer} {left lent out table words : List ℕ} {r : ℕ} → b ≡ a → out ≡ left → table ≡ tableAfter b lent → Gives b r words → Called a left lent r words out table

@@ -1,26 +1,21 @@
--- What the functions of a call promise: `Answers` is the contract of each form, and the others are that of its parts.
+-- What the functions inside a call of a converting form promise. No meaning of document 01 stands here: the contract of each form is `Answers` in crate runs.
 use mathlib.Core.Path.{_≡_}
+use mathlib.Core.Bool.{Bool, true, false}
 use mathlib.Core.List.{List}
-use Prim.Native.Nat.{ℕ, _-_, _≤_}
-use lib.ListN.{length, take, drop}
+use Prim.Native.Nat.{ℕ, _*_, _≤_}
 use Rattle.answer.specs.declared.Answer.{Answer}
-use Rattle.answer.specs.declared.Answer.the-variants as answer
 use Rattle.datatype.specs.Datatype.{Datatype, size}
 use Rattle.datatype.specs.WellFormed.{WellFormed}
 use Rattle.table.specs.Table.{typeAt}
 use Rattle.table.specs.Records.{RowsInside}
-use Rattle.sheet.specs.Sheet.{sheetOf}
-use Rattle.sheet.specs.Sheet.Sheet.{ofType, faultyAt}
-use Rattle.records.specs.Records.{readings}
-use Rattle.convert.specs.declared.Sheets.{Sheets}
-use Rattle.convert.specs.declared.Sheets.the-variants.{Types, Source, Destination}
-use Rattle.runs.specs.Run.{Form, Run, Checked, onChecked, handled, target, result, ifDone, answer, after, tableAfter}
-
--- a call's answer r, the buffer that it writes and the table, afterwards: all as the run says
-pub record Answers (run : Run) (r : Answer) (out table : List ℕ) : Type 0 where
-  pub answers : r ≡ answer run
-  pub leaves : out ≡ after run
-  pub clears : table ≡ tableAfter r (run .table)
+use Rattle.records.specs.Records.{readings, exceptions}
+use Rattle.plans.specs.PlanWords.{wordsPlace}
+use Rattle.two_sheets.specs.TwoSheets.{first, second}
+use Rattle.runs.specs.Run.{Form, Checked, onChecked, handled, target, result, ifDone, typeChecks, sheetChecks}
+use Rattle.runs.specs.Run.Form.{copying, inPlace}
+use Rattle.runs.specs.Run.Checked.{refused, passed}
+use Rattle.convert.specs.declared.Checks.{Checks}
+use Rattle.convert.specs.declared.Checks.the-variants.{Refuse, Pass}
 
 -- ---- behind some checks, of which c says what is left of them
 
@@ -36,41 +31,65 @@ pub record Leaves (form : Form) (handling n : ℕ) (source background : List ℕ
   pub answers : r ≡ answered handling n source c
   pub leaves : out ≡ left form handling n source background c
 
--- ---- the two sheets in the table
+-- ---- by the buffers: `out` is the one that is written, `other` the one that is only read
 
--- the halves of a table of 8,192 words
-abbrev pub first : List ℕ → List ℕ
-first w = take 4096 w
+abbrev pub formOf : Bool → Form
+formOf false = copying
+formOf true = inPlace
 
-abbrev pub second : List ℕ → List ℕ
-second w = drop 4096 w
+abbrev pub sourceOf : {A : Type 0} → Bool → A → A → A
+sourceOf false out other = other
+sourceOf true out other = out
 
--- type i of the table w beside the text t is the sheet's type
-pub record IsSheet (t w : List ℕ) (i : ℕ) : Type 0 where
-  pub type : sheetOf t ≡ ofType (typeAt w t i)
-  pub formed : WellFormed (typeAt w t i)
-  pub inside : RowsInside w
+abbrev pub backgroundOf : {A : Type 0} → Bool → A → A → A
+backgroundOf false out other = out
+backgroundOf true out other = other
 
--- n types of the source sheet in the first half
-pub record SourceRead (t w : List ℕ) (n m : ℕ) : Type 0 where
-  pub some : 1 ≤ n
-  pub is : IsSheet t (first w) (n - 1)
-  pub words : length w ≡ 8192
+abbrev pub LeavesIn : Bool → ℕ → ℕ → List ℕ → List ℕ → Checked → Answer → List ℕ → Type 0
+LeavesIn inPlace handling n out other c r after = Leaves (formOf inPlace) handling n (sourceOf inPlace out other) (backgroundOf inPlace out other) c r after
 
-abbrev pub ReadAs : List ℕ → List ℕ → List ℕ → Sheets → Type 0
-ReadAs ss ds w (Types i k) = IsSheet ss (first w) i × IsSheet ds (second w) k
-ReadAs ss ds w (Source line) = sheetOf ss ≡ faultyAt line
-ReadAs ss ds w (Destination line) = ((i : ℕ) × IsSheet ss (first w) i) × (sheetOf ds ≡ faultyAt line)
+-- the records were converted, and r exceptions counted
+abbrev pub ConvertsIn : Bool → Datatype → Datatype → ℕ → List ℕ → List ℕ → List ℕ → ℕ → Type 0
+ConvertsIn inPlace S D n out other after r =
+    (after ≡ result (formOf inPlace) S D n (sourceOf inPlace out other) (backgroundOf inPlace out other))
+    × (r ≡ exceptions S D n (readings S D (sourceOf inPlace out other)))
 
-pub record SheetsRead (ss ds w : List ℕ) (r : Sheets) : Type 0 where
-  pub is : ReadAs ss ds w r
-  pub words : length w ≡ 8192
+-- n records of s and of d bytes, which the buffers, by their lengths, have room for
+abbrev pub HasRecords : Bool → ℕ → ℕ → ℕ → ℕ → ℕ → Type 0
+HasRecords false n s d out other = (n ≤ 65536) × (n * s ≤ other) × (n * d ≤ out)
+HasRecords true n s d out other = (n ≤ 65536) × (n * s ≤ out) × (n * d ≤ out) × (n * d ≤ other)
 
--- two types, of s and d bytes
-pub record Both (ss ws : List ℕ) (i : ℕ) (ds wd : List ℕ) (k s d : ℕ) : Type 0 where
+-- ---- checks 3 to 7, of two sheets, a count and the lengths of the buffers
+
+abbrev pub sheetsChecked : Bool → List ℕ → List ℕ → ℕ → ℕ → ℕ → Checked
+sheetsChecked inPlace ss ds n out other = sheetChecks (formOf inPlace) ss ds n (sourceOf inPlace out other) (backgroundOf inPlace out other)
+
+abbrev pub typesChecked : Bool → ℕ → ℕ → ℕ → Datatype → Datatype → Checked
+typesChecked inPlace n out other S D = typeChecks (formOf inPlace) n (sourceOf inPlace out other) (backgroundOf inPlace out other) S D
+
+-- type i of the half ws and type k of the half wd, which no check refuses
+pub record Passes (inPlace : Bool) (ss ds : List ℕ) (n out other : ℕ) (ws : List ℕ) (i : ℕ) (wd : List ℕ) (k : ℕ) : Type 0 where
   pub source : WellFormed (typeAt ws ss i)
   pub destination : WellFormed (typeAt wd ds k)
   pub sourceRows : RowsInside ws
   pub destinationRows : RowsInside wd
-  pub sourceSize : s ≡ size (typeAt ws ss i)
-  pub destinationSize : d ≡ size (typeAt wd ds k)
+  pub records : HasRecords inPlace n (size (typeAt ws ss i)) (size (typeAt wd ds k)) out other
+
+-- r says what the checks of the types i and k say
+abbrev pub TypesSay : Bool → List ℕ → List ℕ → ℕ → ℕ → ℕ → List ℕ → ℕ → List ℕ → ℕ → Checks → Type 0
+TypesSay inPlace ss ds n out other ws i wd k (Refuse a) = typesChecked inPlace n out other (typeAt ws ss i) (typeAt wd ds k) ≡ refused a
+TypesSay inPlace ss ds n out other ws i wd k (Pass i′ k′) =
+    (i′ ≡ i) × (k′ ≡ k) × (typesChecked inPlace n out other (typeAt ws ss i) (typeAt wd ds k) ≡ passed (typeAt ws ss i) (typeAt wd ds k))
+    × Passes inPlace ss ds n out other ws i wd k
+
+-- r says what the checks of the sheets say, whose types then stand in the halves of the table w
+abbrev pub SheetsSay : Bool → List ℕ → List ℕ → ℕ → ℕ → ℕ → List ℕ → Checks → Type 0
+SheetsSay inPlace ss ds n out other w (Refuse a) = sheetsChecked inPlace ss ds n out other ≡ refused a
+SheetsSay inPlace ss ds n out other w (Pass i k) =
+    (sheetsChecked inPlace ss ds n out other ≡ passed (typeAt (first w) ss i) (typeAt (second w) ds k)) × Passes inPlace ss ds n out other (first w) i (second w) k
+
+-- the arrays of a call, by their lengths, have room for the plan to type k and its words
+pub record Frame (ds wd : List ℕ) (k plan words : ℕ) : Type 0 where
+  pub plan-room : 2 * size (typeAt wd ds k) ≤ plan
+  pub words-room : wordsPlace (size (typeAt wd ds k)) ≤ words
+  pub words-most : words ≤ 65536

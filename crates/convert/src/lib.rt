@@ -1,7 +1,6 @@
 // The four converting forms as whole calls: checks in the table's order, the working table, answers.
 ghost use mathlib.Core.Path.{_≡_};
-ghost use Rattle.runs.specs.Run.{copyingRun, inPlaceRun, plain};
-ghost use Rattle.convert.specs.Call.{Answers};
+ghost use Rattle.runs.specs.Run.{copyingRun, inPlaceRun, plain, Answers};
 use answer::Answer;
 
 pub mod both;

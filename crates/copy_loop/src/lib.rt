@@ -4,8 +4,8 @@ ghost use Prim.Native.Nat.{_*_, _≤_};
 ghost use lib.ListN.{length};
 ghost use Rattle.records.specs.Records.{readings, exceptions, copyResult};
 ghost use Rattle.plans.specs.PlanWords.{Job};
-use single_loop::copy_single;
 use one_record::write_record;
+use single_loop::copy_single;
 
 // Converts c records of s bytes in src into c records of d bytes in dst, and counts the exceptions.
 pub fn copy_records(

@@ -25,6 +25,7 @@ use Rattle.number.proofs.Pads.{whole-filled}
 use Rattle.table.specs.Table.{orderOf}
 use Rattle.table.specs.Words.{Reads}
 use Rattle.table.specs.Records.{orderCode}
+use Rattle.entry_code.specs.Code.{routeIn, shiftIn, precisionIn, sizeIn, orderIn}
 use Rattle.easy.specs.Easy.{inside, easy, shiftOf, carryOf}
 use Rattle.easy.specs.Words.{EasyBy, EasyAt}
 
@@ -147,7 +148,6 @@ module _ (l m : Layout) {o s p c n r : ℕ} (e : EasyBy l m o s p c n r) (src : 
         ∙ ap (λ (x : ℕ). stored m b x dst) f
 
 -- the numbers that were read where the words stand
-pub numbers-read : (l m : Layout) (w : List ℕ) (k : ℕ) → EasyAt l m w k → {o s p low high n r : ℕ}
-    → Reads (getD w k 0) o → Reads (getD w (k + 1) 0) s → Reads (getD w (k + 2) 0) p → Reads (getD w (k + 3) 0) low → Reads (getD w (k + 4) 0) high
-    → Reads (getD w (k + 5) 0) n → Reads (getD w (k + 6) 0) r → EasyBy l m o s p (low + high * 4294967296) n r
-numbers-read l m w k e ro rs rp rl rh rn rr = rw (ro .is, rs .is, rp .is, rl .is, rh .is, rn .is, rr .is) e
+pub numbers-read : (l m : Layout) (w : List ℕ) (k : ℕ) → EasyAt l m w k → {x o s p c n r : ℕ} → Reads (getD w k 0) x
+    → o ≡ routeIn x → s ≡ shiftIn x → p ≡ precisionIn x → c ≡ getD w (k + 1) 0 + getD w (k + 2) 0 * 4294967296 → n ≡ sizeIn x → r ≡ orderIn x → EasyBy l m o s p c n r
+numbers-read l m w k e rx ro rs rp rc rn rr = rw (ro, rs, rp, rc, rn, rr, rx .is) e

@@ -11,9 +11,12 @@ use borrow.Author.Tests.{leb-true, ltb-true}
 use Rattle.layout.specs.declared.Layout.{Layout}
 use Rattle.layout.specs.Layout.{valid, Valid}
 use Rattle.layout.proofs.Valid.{facts}
-use Rattle.easy.specs.Easy.{inside, easy, wordsOf, easyWords, withWords}
+use Rattle.table.specs.Records.{orderCode}
+use Rattle.entry_code.specs.Code.{packed, routeIn}
+use Rattle.entry_code.proofs.Packed.{route-back, shift-back, precision-back, size-back, order-back, route-zero}
+use Rattle.easy.specs.Easy.{inside, easy, shiftOf, wordsOf, easyWords, withWords}
 use Rattle.easy.specs.Words.{EasyAt}
-use Rattle.easy.proofs.Easy.{three}
+use Rattle.easy.proofs.Easy.{three, shift-small, order-small}
 
 pub words-length : (xs w : List ℕ) (k : ℕ) → length (withWords w k xs) ≡ length w
 unfolding withWords
@@ -62,44 +65,70 @@ module _ (l m : Layout) (h : (valid l && (valid m && easy l m)) ≡ true) where
         (three (eqb (m .offset .0) 0) (eqb (m .precision) (8 * m .size .0)) (inside (l .signed) (m .signed) (l .precision) (m .precision)) (tests .2) .2),
   )
 
+  -- the small numbers of the pair come out of the packed word
+  abbrev code : ℕ
+  code = packed (1 + orderCode (l .order)) (shiftOf (l .order) (l .size .0) (l .offset .0)) (l .precision) (m .size .0) (orderCode (m .order)) 0
+
+  route-low : 1 + orderCode (l .order) < 8
+  route-low = omega (arith, order-small (l .order))
+
+  shift-low : shiftOf (l .order) (l .size .0) (l .offset .0) < 64
+  shift-low = let v = facts l (tests .0) in shift-small (l .order) (l .size .0) (l .offset .0) (l .precision) (v .sized) (v .some) (v .inside)
+
+  precision-low : l .precision < 128
+  precision-low = omega (arith, facts l (tests .0) .most)
+
+  size-low : m .size .0 < 16
+  size-low = omega (arith, facts m (tests .1) .sized)
+
+  order-low : orderCode (m .order) < 2
+  order-low = omega (arith, order-small (m .order))
+
   -- where they were written
-  pub words-stand : (w : List ℕ) (k : ℕ) → k + 8 ≤ length w → EasyAt l m (withWords w k (wordsOf l m)) k
+  pub words-stand : (w : List ℕ) (k : ℕ) → k + 4 ≤ length w → EasyAt l m (withWords w k (wordsOf l m)) k
   words-stand w k room =
-      let at : (q : ℕ) → q < 8 → getD (withWords w k (wordsOf l m)) (k + q) 0 ≡ getD (wordsOf l m) q 0 = λ q low. words-at (wordsOf l m) w k q low room in
+      let at : (q : ℕ) → q < 4 → getD (withWords w k (wordsOf l m)) (k + q) 0 ≡ getD (wordsOf l m) q 0 = λ q low. words-at (wordsOf l m) w k q low room in
       let z : k + 0 ≡ k = omega arith in
+      let first : getD (withWords w k (wordsOf l m)) k 0 ≡ code = rw z at (at 0 (omega arith)) in
       record {
         valid = facts l (tests .0);
         is = tests .2;
-        order = rw z at (at 0 (omega arith));
-        shift = at 1 (omega arith);
-        precision = at 2 (omega arith);
-        carry = rw (at 3 (omega arith), at 4 (omega arith)) (omega arith);
-        size = at 5 (omega arith);
-        destinationOrder = at 6 (omega arith);
+        order = rw first (route-back _ _ _ _ _ 0 route-low shift-low precision-low size-low order-low);
+        shift = rw first (shift-back _ _ _ _ _ 0 route-low shift-low precision-low size-low order-low);
+        precision = rw first (precision-back _ _ _ _ _ 0 route-low shift-low precision-low size-low order-low);
+        carry = rw (at 1 (omega arith), at 2 (omega arith)) (omega arith);
+        size = rw first (size-back _ _ _ _ _ 0 route-low shift-low precision-low size-low order-low);
+        destinationOrder = rw first (order-back _ _ _ _ _ 0 route-low shift-low precision-low size-low order-low);
         most = facts m (tests .1) .sized;
       }
 
--- the first word of any pair is 0, or its words stand there
-pub easy-stands : (l m : Layout) (w : List ℕ) (k : ℕ) → k + 8 ≤ length w → (getD (withWords w k (easyWords l m)) k 0 ≡ 0 → ⊥) → EasyAt l m (withWords w k (easyWords l m)) k
+-- zeros have the route 0
+zeros-route : (w : List ℕ) (k : ℕ) → k + 4 ≤ length w → routeIn (getD (withWords w k (replicate 4 0)) k 0) ≡ 0
+zeros-route w k room =
+    let z : k + 0 ≡ k = omega arith in
+    let first : getD (withWords w k (replicate 4 0)) k 0 ≡ 0 = rw z at (words-at (replicate 4 0) w k 0 (omega arith) room) in
+    rw first route-zero
+
+-- the route of any pair is 0, or its words stand there
+pub easy-stands : (l m : Layout) (w : List ℕ) (k : ℕ) → k + 4 ≤ length w → (routeIn (getD (withWords w k (easyWords l m)) k 0) ≡ 0 → ⊥) → EasyAt l m (withWords w k (easyWords l m)) k
 easy-stands l m w k room some = go (valid l && (valid m && easy l m)) refl some
   where
-    go : (t : Bool) → (valid l && (valid m && easy l m)) ≡ t → (getD (withWords w k (cond t (wordsOf l m) (replicate 8 0))) k 0 ≡ 0 → ⊥)
-        → EasyAt l m (withWords w k (cond t (wordsOf l m) (replicate 8 0))) k
+    go : (t : Bool) → (valid l && (valid m && easy l m)) ≡ t → (routeIn (getD (withWords w k (cond t (wordsOf l m) (replicate 4 0))) k 0) ≡ 0 → ⊥)
+        → EasyAt l m (withWords w k (cond t (wordsOf l m) (replicate 4 0))) k
     go true e h = words-stand l m e w k room
-    go false e h = let z : k + 0 ≡ k = omega arith in absurd (h (rw z at (words-at (replicate 8 0) w k 0 (omega arith) room)))
+    go false e h = absurd (h (zeros-route w k room))
+
+-- it is none of an enum's
+pub easy-route : (l m : Layout) (w : List ℕ) (k : ℕ) → k + 4 ≤ length w → routeIn (getD (withWords w k (easyWords l m)) k 0) < 3
+easy-route l m w k room = go (valid l && (valid m && easy l m)) refl
+  where
+    go : (t : Bool) → (valid l && (valid m && easy l m)) ≡ t → routeIn (getD (withWords w k (cond t (wordsOf l m) (replicate 4 0))) k 0) < 3
+    go true e = omega (arith, words-stand l m e w k room .order, order-small (l .order))
+    go false e = omega (arith, zeros-route w k room)
 
 -- they stand where each of them is kept
-pub easy-kept : (l m : Layout) (v w : List ℕ) (k : ℕ) → ((q : ℕ) → q < 8 → getD v (k + q) 0 ≡ getD w (k + q) 0) → EasyAt l m w k → EasyAt l m v k
+pub easy-kept : (l m : Layout) (v w : List ℕ) (k : ℕ) → ((q : ℕ) → q < 4 → getD v (k + q) 0 ≡ getD w (k + q) 0) → EasyAt l m w k → EasyAt l m v k
 easy-kept l m v w k same e =
     let z : k + 0 ≡ k = omega arith in
-    record {
-      valid = e .valid;
-      is = e .is;
-      order = (rw z at (same 0 (omega arith))) ∙ e .order;
-      shift = same 1 (omega arith) ∙ e .shift;
-      precision = same 2 (omega arith) ∙ e .precision;
-      carry = rw (same 3 (omega arith), same 4 (omega arith)) (e .carry);
-      size = same 5 (omega arith) ∙ e .size;
-      destinationOrder = same 6 (omega arith) ∙ e .destinationOrder;
-      most = e .most;
-    }
+    let first : getD v k 0 ≡ getD w k 0 = rw z at (same 0 (omega arith)) in
+    rw (first, same 1 (omega arith), same 2 (omega arith)) e

@@ -4,6 +4,8 @@ ghost use lib.ListN.{length};
 ghost use Rattle.layout.specs.declared.Layout.{Layout};
 ghost use Rattle.easy.specs.Each.{EachEasy, eachLeaf};
 use crate::convert_by;
+use entry_code::EASY_BE;
+use entry_code::EASY_LE;
 
 // Converts the leaf at byte a of each of c records of s bytes into the leaf at byte b of a record of d bytes, by the numbers of an easy pair.
 fn each_by(
@@ -62,7 +64,21 @@ fn each_le(
     requires { ⌜ ((l : Layout) × (m : Layout) × EachEasy l m c s d b a order shift p carry size into (length (now src)) (length (now dst))) × (order ≡ 1) ⌝ }
     ensures { λ _. ⌜ ((l m : Layout) → EachEasy l m c s d b a order shift p carry size into (length (now (src .entry))) (length (now (dst .entry))) → now (dst .exit) ≡ eachLeaf l m s d b a (now (src .entry)) c (now (dst .entry))) ⌝ }
 {
-    each_by(src, dst, c, s, d, b, a, 1, shift, p, carry, size, into);
+    each_by(
+        src,
+        dst,
+        c,
+        s,
+        d,
+        b,
+        a,
+        EASY_LE,
+        shift,
+        p,
+        carry,
+        size,
+        into,
+    );
 }
 
 fn each_be(
@@ -83,7 +99,21 @@ fn each_be(
     requires { ⌜ ((l : Layout) × (m : Layout) × EachEasy l m c s d b a order shift p carry size into (length (now src)) (length (now dst))) × (order ≡ 1 → ⊥) ⌝ }
     ensures { λ _. ⌜ ((l m : Layout) → EachEasy l m c s d b a order shift p carry size into (length (now (src .entry))) (length (now (dst .entry))) → now (dst .exit) ≡ eachLeaf l m s d b a (now (src .entry)) c (now (dst .entry))) ⌝ }
 {
-    each_by(src, dst, c, s, d, b, a, 2, shift, p, carry, size, into);
+    each_by(
+        src,
+        dst,
+        c,
+        s,
+        d,
+        b,
+        a,
+        EASY_BE,
+        shift,
+        p,
+        carry,
+        size,
+        into,
+    );
 }
 
 fn each_1(
@@ -103,7 +133,7 @@ fn each_1(
     requires { ⌜ ((l : Layout) × (m : Layout) × EachEasy l m c s d b a order shift p carry 1 into (length (now src)) (length (now dst))) ⌝ }
     ensures { λ _. ⌜ ((l m : Layout) → EachEasy l m c s d b a order shift p carry 1 into (length (now (src .entry))) (length (now (dst .entry))) → now (dst .exit) ≡ eachLeaf l m s d b a (now (src .entry)) c (now (dst .entry))) ⌝ }
 {
-    if order == 1 {
+    if order == EASY_LE {
         each_le(src, dst, c, s, d, b, a, order, shift, p, carry, 1, into);
     } else {
         each_be(src, dst, c, s, d, b, a, order, shift, p, carry, 1, into);
@@ -127,7 +157,7 @@ fn each_2(
     requires { ⌜ ((l : Layout) × (m : Layout) × EachEasy l m c s d b a order shift p carry 2 into (length (now src)) (length (now dst))) ⌝ }
     ensures { λ _. ⌜ ((l m : Layout) → EachEasy l m c s d b a order shift p carry 2 into (length (now (src .entry))) (length (now (dst .entry))) → now (dst .exit) ≡ eachLeaf l m s d b a (now (src .entry)) c (now (dst .entry))) ⌝ }
 {
-    if order == 1 {
+    if order == EASY_LE {
         each_le(src, dst, c, s, d, b, a, order, shift, p, carry, 2, into);
     } else {
         each_be(src, dst, c, s, d, b, a, order, shift, p, carry, 2, into);
@@ -151,7 +181,7 @@ fn each_4(
     requires { ⌜ ((l : Layout) × (m : Layout) × EachEasy l m c s d b a order shift p carry 4 into (length (now src)) (length (now dst))) ⌝ }
     ensures { λ _. ⌜ ((l m : Layout) → EachEasy l m c s d b a order shift p carry 4 into (length (now (src .entry))) (length (now (dst .entry))) → now (dst .exit) ≡ eachLeaf l m s d b a (now (src .entry)) c (now (dst .entry))) ⌝ }
 {
-    if order == 1 {
+    if order == EASY_LE {
         each_le(src, dst, c, s, d, b, a, order, shift, p, carry, 4, into);
     } else {
         each_be(src, dst, c, s, d, b, a, order, shift, p, carry, 4, into);
@@ -175,7 +205,7 @@ fn each_8(
     requires { ⌜ ((l : Layout) × (m : Layout) × EachEasy l m c s d b a order shift p carry 8 into (length (now src)) (length (now dst))) ⌝ }
     ensures { λ _. ⌜ ((l m : Layout) → EachEasy l m c s d b a order shift p carry 8 into (length (now (src .entry))) (length (now (dst .entry))) → now (dst .exit) ≡ eachLeaf l m s d b a (now (src .entry)) c (now (dst .entry))) ⌝ }
 {
-    if order == 1 {
+    if order == EASY_LE {
         each_le(src, dst, c, s, d, b, a, order, shift, p, carry, 8, into);
     } else {
         each_be(src, dst, c, s, d, b, a, order, shift, p, carry, 8, into);

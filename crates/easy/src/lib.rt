@@ -7,23 +7,39 @@ ghost use Rattle.number.specs.Number.{numberAt, fitted};
 ghost use Rattle.number.specs.Place.{stored};
 ghost use Rattle.table.specs.Words.{Reads};
 ghost use Rattle.table.specs.Table.{orderOf};
+ghost use Rattle.table.specs.Records.{orderCode};
 ghost use mathlib.Core.List.{[], _∷_};
 ghost use Rattle.layout.specs.Layout.{valid, Valid};
 ghost use mathlib.Core.Bool.{_&&_};
 ghost use Rattle.easy.specs.Easy.{inside, easy, shiftOf, carryOf, easyWords, wordsOf, withWords};
 ghost use Rattle.easy.specs.Words.{EasyBy, EasyAt};
+ghost use Rattle.entry_code.specs.Code.{packed};
 
 pub mod each;
 
+use bits::ByteAt;
 use bits::Order;
 use bits::bits_of;
-use loading::bits_be;
-use loading::bits_le;
 use bits::shift::ones;
+use entry_code::EASY_LE;
+use entry_code::order_in;
+use entry_code::pack;
+use entry_code::precision_in;
+use entry_code::route_in;
+use entry_code::shift_in;
+use entry_code::size_in;
 use layout::Layout;
 use layout::is_valid;
+use loading::bits_be;
+use loading::bits_le;
 use table::codes::order_code;
 use table::codes::order_of;
+
+// Bytes that are read at once.
+pub const WINDOW: usize = 8;
+
+// What one of the carry's high half is worth.
+const HIGH: u64 = 4294967296;
 
 // Word k of w.
 pub fn at(w: &[u32], k: usize) -> usize
@@ -38,7 +54,7 @@ pub fn raw_by(src: &[u8], a: usize, order: usize, shift: u32, precision: u32) ->
     requires { ⌜ (a + 8 ≤ length (now src)) × (1 ≤ order) × (shift < 64) × (precision ≤ 64) ⌝ }
     ensures { λ r. ⌜ (r ≡ field shift precision (container (orderOf (order - 1)) (take 8 (drop a (now (src .entry)))))) × (r < 2 ^ precision) ⌝ }
 {
-    if order == 1 {
+    if order == EASY_LE {
         return bits_le(src, a, shift, precision);
     }
     bits_be(src, a, shift, precision)
@@ -65,27 +81,32 @@ pub fn convert_by(
     storing::store(dst, b, size, order_of(into), wide);
 }
 
+// The carry of the pair whose words stand from word k of w on.
+pub fn carry_at(w: &[u32], k: usize) -> u64
+    requires { ⌜ k + 4 ≤ length (now w) ⌝ }
+    ensures { λ r. ⌜ r ≡ getD (now (w .entry)) (k + 1) 0 + getD (now (w .entry)) (k + 2) 0 * 4294967296 ⌝ }
+{
+    at(w, k + 1) as u64 + at(w, k + 2) as u64 * HIGH
+}
+
 // The same by the words from word k of w on.
 pub fn convert_easy(src: &[u8], dst: &mut [u8], b: usize, a: usize, w: &[u32], k: usize)
-    requires { ⌜ ((l : Layout) × (m : Layout) × EasyAt l m (now w) k × (b + m .size .0 ≤ length (now dst))) × (a + 8 ≤ length (now src)) × (k + 8 ≤ length (now w)) ⌝ }
+    requires { ⌜ ((l : Layout) × (m : Layout) × EasyAt l m (now w) k × (b + m .size .0 ≤ length (now dst))) × (a + 8 ≤ length (now src)) × (k + 4 ≤ length (now w)) ⌝ }
     ensures { λ _. ⌜ ((l m : Layout) → EasyAt l m (now (w .entry)) k → b + m .size .0 ≤ length (now (dst .entry)) → now (dst .exit) ≡ stored m b (fitted m (numberAt l a (now (src .entry))) .raw) (now (dst .entry))) ⌝ }
 {
-    let order = at(w, k);
-    let shift = at(w, k + 1) as u32;
-    let precision = at(w, k + 2) as u32;
-    let carry = (at(w, k + 3) + at(w, k + 4) * 4294967296) as u64;
-    let size = at(w, k + 5);
+    let code = at(w, k);
+    let carry = carry_at(w, k);
     convert_by(
         src,
         dst,
         b,
         a,
-        order,
-        shift,
-        precision,
+        route_in(code),
+        shift_in(code),
+        precision_in(code),
         carry,
-        size,
-        at(w, k + 6),
+        size_in(code),
+        order_in(code),
     );
 }
 
@@ -127,7 +148,7 @@ pub fn shift_of(l: Layout) -> u32
     let order = l.order;
     match order {
         Order::LE => l.offset.0,
-        Order::BE => 64 - bits_of(l.size).0 + l.offset.0,
+        Order::BE => bits_of(ByteAt(WINDOW)).0 - bits_of(l.size).0 + l.offset.0,
     }
 }
 
@@ -139,55 +160,46 @@ fn carry_of(signed: bool, p: u32, q: u32) -> u64
     if signed { ones(q) - ones(p) } else { 0 }
 }
 
-// Writes eight words from word k of w on.
-pub fn put_eight(
-    w: &mut [u32],
-    k: usize,
-    a: u32,
-    b: u32,
-    c: u32,
-    d: u32,
-    e: u32,
-    f: u32,
-    g: u32,
-    h: u32,
-)
-    requires { ⌜ k + 8 ≤ length (now w) ⌝ }
-    ensures { λ _. ⌜ now (w .exit) ≡ withWords (now (w .entry)) k (a ∷ b ∷ c ∷ d ∷ e ∷ f ∷ g ∷ h ∷ []) ⌝ }
+// Writes four words from word k of w on.
+pub fn put_four(w: &mut [u32], k: usize, a: u32, b: u32, c: u32, d: u32)
+    requires { ⌜ k + 4 ≤ length (now w) ⌝ }
+    ensures { λ _. ⌜ now (w .exit) ≡ withWords (now (w .entry)) k (a ∷ b ∷ c ∷ d ∷ []) ⌝ }
 {
     w[k] = a;
     w[k + 1] = b;
     w[k + 2] = c;
     w[k + 3] = d;
-    w[k + 4] = e;
-    w[k + 5] = f;
-    w[k + 6] = g;
-    w[k + 7] = h;
+}
+
+// The packed word of a pair that is easy.
+fn pack_easy(l: Layout, m: Layout) -> u32
+    requires { ⌜ Valid l × Valid m ⌝ }
+    ensures { λ r. ⌜ r ≡ packed (1 + orderCode (l .order)) (shiftOf (l .order) (l .size .0) (l .offset .0)) (l .precision) (m .size .0) (orderCode (m .order)) 0 ⌝ }
+{
+    let from = l.order;
+    let to = m.order;
+    let shift = shift_of(l);
+    let size = m.size.0 as u32;
+    pack(
+        EASY_LE as u32 + order_code(from),
+        shift,
+        l.precision,
+        size,
+        order_code(to),
+        0,
+    )
 }
 
 // The words of a pair that is easy.
 fn put_easy(w: &mut [u32], k: usize, l: Layout, m: Layout)
-    requires { ⌜ Valid l × Valid m × (l .precision ≤ m .precision) × (k + 8 ≤ length (now w)) ⌝ }
+    requires { ⌜ Valid l × Valid m × (l .precision ≤ m .precision) × (k + 4 ≤ length (now w)) ⌝ }
     ensures { λ _. ⌜ now (w .exit) ≡ withWords (now (w .entry)) k (wordsOf l m) ⌝ }
 {
-    let from = l.order;
-    let to = m.order;
+    let code = pack_easy(l, m);
     let carry = carry_of(l.signed, l.precision, m.precision);
-    let low = (carry % 4294967296) as u32;
-    let high = (carry / 4294967296) as u32;
-    let size = m.size.0 as u32;
-    put_eight(
-        w,
-        k,
-        1 + order_code(from),
-        shift_of(l),
-        l.precision,
-        low,
-        high,
-        size,
-        order_code(to),
-        0,
-    );
+    let low = (carry % HIGH) as u32;
+    let high = (carry / HIGH) as u32;
+    put_four(w, k, code, low, high, 0);
 }
 
 // Whether l and m are valid and easy.
@@ -205,12 +217,12 @@ fn have_words(l: Layout, m: Layout) -> bool
 
 // From word k of w on: the words of l and m where they are valid and easy, else zeros.
 pub fn put_words(w: &mut [u32], k: usize, l: Layout, m: Layout)
-    requires { ⌜ k + 8 ≤ length (now w) ⌝ }
+    requires { ⌜ k + 4 ≤ length (now w) ⌝ }
     ensures { λ _. ⌜ now (w .exit) ≡ withWords (now (w .entry)) k (easyWords l m) ⌝ }
 {
     if have_words(l, m) {
         put_easy(w, k, l, m);
         return;
     }
-    put_eight(w, k, 0, 0, 0, 0, 0, 0, 0, 0);
+    put_four(w, k, 0, 0, 0, 0);
 }

@@ -5,11 +5,17 @@ ghost use Rattle.entry_code.specs.Code.{packed, routeIn, shiftIn, precis
 
 // Routes: how the leaf of an entry is converted.
 pub const GENERAL: usize = 0;
+
 pub const EASY_LE: usize = 1;
+
 pub const EASY_BE: usize = 2;
+
 pub const SPAN_LE: usize = 3;
+
 pub const SPAN_BE: usize = 4;
+
 pub const SPAN: usize = 5;
+
 pub const LOOKED_UP: usize = 6;
 
 pub fn route_in(code: usize) -> usize

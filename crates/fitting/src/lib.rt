@@ -5,13 +5,13 @@ ghost use mathlib.Core.Bool.{true, false};
 ghost use Rattle.layout.specs.Layout.{Valid};
 ghost use Rattle.number.specs.Number.{valued, fittedTo, fitted};
 ghost use Rattle.number.specs.Parts.{meaning, signedBy};
+use bits::shift::ones;
+use layout::Layout;
 use number::Fitted;
 use number::Number;
 use number::Parts;
 use number::sign::number_of;
 use number::sign::split;
-use bits::shift::ones;
-use layout::Layout;
 
 fn fit_unsigned(z: Parts, precision: u32) -> Fitted
     requires { ⌜ precision ≤ 64 ⌝ }

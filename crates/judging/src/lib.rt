@@ -7,12 +7,21 @@ ghost use Rattle.table.specs.Table.{bytesAt, upToZero, Holds};
 ghost use Rattle.sheet.specs.Sheet.{judgedAfter};
 ghost use Rattle.sheet.specs.Judged.{soFarAt, Judges};
 ghost use Rattle.sheet.specs.Steps.{isIntAt, TypeAdded, RowAdded};
-use sheet::Judged;
-use sheet::Total;
+use layout::Layout;
 use row_rules::member::may_place;
 use row_rules::product::total;
 use row_rules::value::may_list;
-use layout::Layout;
+use sheet::Judged;
+use sheet::MOST_BYTES;
+use sheet::MOST_ROWS;
+use sheet::MOST_TYPES;
+use sheet::Total;
+use table::ARRAY;
+use table::CLASS;
+use table::COMPOUND;
+use table::ENUM;
+use table::INT;
+use table::SIZE;
 use table::read::layout_at;
 use table::read::type_word;
 use table_records::array_record;
@@ -27,7 +36,7 @@ fn next_type(w: &mut [u32], n: u32, m: u32, r: [u32; 16]) -> Judged
     requires { ⌜ Holds (now w) n m ⌝ }
     ensures { λ j. ⌜ TypeAdded (now (w .entry)) (now (w .exit)) n m r j ⌝ }
 {
-    if 64 <= n {
+    if MOST_TYPES <= n {
         return Judged::Refused;
     }
     table::store::put_type(w, n as usize, r);
@@ -39,7 +48,7 @@ fn next_row(w: &mut [u32], n: u32, m: u32, r: [u32; 8]) -> Judged
     requires { ⌜ Holds (now w) n m × (0 < n) ⌝ }
     ensures { λ j. ⌜ RowAdded (now (w .entry)) (now (w .exit)) n m r j ⌝ }
 {
-    if 256 <= m {
+    if MOST_ROWS <= m {
         return Judged::Refused;
     }
     let i = (n - 1) as usize;
@@ -61,11 +70,11 @@ pub fn judge_atomic(w: &mut [u32], t: &[u8], n: u32, m: u32, l: Layout) -> Judge
 fn is_int(w: &[u32], i: usize) -> bool
     ensures { λ r. ⌜ r ≡ isIntAt (now (w .entry)) i ⌝ }
 {
-    let class = type_word(w, i, 0);
-    if class == 0 {
+    let class = type_word(w, i, CLASS);
+    if class == INT {
         return true;
     }
-    4 < class
+    ARRAY < class
 }
 
 pub fn judge_enum(w: &mut [u32], t: &[u8], n: u32, m: u32, base: u32) -> Judged
@@ -100,7 +109,7 @@ pub fn judge_value(
         return Judged::Refused;
     }
     let i = (n - 1) as usize;
-    if type_word(w, i, 0) != 2 {
+    if type_word(w, i, CLASS) != ENUM {
         return Judged::Refused;
     }
     if !may_list(w, t, i, start, len, negative, distance) {
@@ -117,7 +126,7 @@ pub fn judge_compound(w: &mut [u32], t: &[u8], n: u32, m: u32, size: u32) -> Jud
     if size < 1 {
         return Judged::Refused;
     }
-    if 4096 < size {
+    if MOST_BYTES < size {
         return Judged::Refused;
     }
     next_type(w, n, m, compound_record(size, m))
@@ -143,10 +152,10 @@ pub fn judge_member(
         return Judged::Refused;
     }
     let i = (n - 1) as usize;
-    if type_word(w, i, 0) != 3 {
+    if type_word(w, i, CLASS) != COMPOUND {
         return Judged::Refused;
     }
-    let width = type_word(w, kind as usize, 1);
+    let width = type_word(w, kind as usize, SIZE);
     if !may_place(w, t, i, start, len, offset as usize, width) {
         return Judged::Refused;
     }
@@ -164,7 +173,7 @@ pub fn judge_array(w: &mut [u32], t: &[u8], n: u32, m: u32, base: u32, dims: [u3
     if dims[0] == 0 {
         return Judged::Refused;
     }
-    let size = type_word(w, base as usize, 1);
+    let size = type_word(w, base as usize, SIZE);
     match total(dims, size) {
         Total::Bytes(z) => next_type(w, n, m, array_record(z, base, m, dims)),
         Total::TooMany => Judged::Refused,

@@ -10,7 +10,6 @@ use bits::ByteAt;
 use bits::Order;
 use bits::bits_of;
 
-
 pub enum Class {
     Int,
     Bits,

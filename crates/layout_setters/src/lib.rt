@@ -3,6 +3,11 @@ ghost use mathlib.Core.Path.{_≡_};
 ghost use Prim.Native.Nat.{_-_, _≤_, min, max};
 ghost use Rattle.layout.specs.Setters.{edited, resized, bytesFor, withPrecision, isInt};
 ghost use Rattle.layout.specs.Setters.{setSize, setOrder, setPrecision, setOffset, setPads, setSign};
+use answer::Answer;
+use bits::BitAt;
+use bits::ByteAt;
+use bits::Order;
+use bits::bits_of;
 use layout::Class;
 use layout::Edited;
 use layout::Layout;
@@ -11,11 +16,6 @@ use layout::fits;
 use layout::is_valid;
 use layout::precision_allowed;
 use layout::size_allowed;
-use answer::Answer;
-use bits::BitAt;
-use bits::ByteAt;
-use bits::Order;
-use bits::bits_of;
 
 fn least(a: u32, b: u32) -> u32
     ensures { λ r. ⌜ r ≡ min a b ⌝ }

@@ -3,6 +3,8 @@ ghost use mathlib.Core.Path.{_≡_};
 ghost use Prim.Native.Nat.{_+_, _≤_};
 ghost use lib.ListN.{length};
 ghost use Rattle.leaves.specs.Lines.{column, classColumn, columns, Length, Wrote};
+use table::BITS;
+use table::ENUM;
 use text::decimal_len;
 use text::put_bytes;
 use text::put_decimal;
@@ -10,9 +12,9 @@ use text::put_decimal;
 fn class_len(class: usize) -> usize
     ensures { λ r. ⌜ (r ≡ length (classColumn class)) × (r ≤ 5) ⌝ }
 {
-    if class == 2 {
+    if class == ENUM {
         5
-    } else if class == 1 {
+    } else if class == BITS {
         5
     } else {
         4
@@ -30,10 +32,10 @@ fn put_class(list: &mut [u8], at: usize, class: usize) -> usize
     requires { ⌜ at + length (classColumn class) ≤ length (now list) ⌝ }
     ensures { λ r. ⌜ Wrote (now (list .entry)) at (classColumn class) (now (list .exit)) r ⌝ }
 {
-    if class == 2 {
+    if class == ENUM {
         return put_bytes(list, at, b"enum\n");
     }
-    if class == 1 {
+    if class == BITS {
         return put_bytes(list, at, b"bits\n");
     }
     put_bytes(list, at, b"int\n")

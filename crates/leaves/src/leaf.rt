@@ -9,7 +9,9 @@ ghost use Rattle.leaves.specs.Lines.{header, lineAt, Length, written, Wr
 use crate::column::line_len;
 use crate::column::put_line;
 use paths::leaf::leaf_at;
+use table::CLASS;
 use table::Found;
+use table::SIZE;
 use table::read::type_word;
 use text::put_bytes;
 
@@ -21,8 +23,8 @@ fn leaf_len(w: &[u32], i: usize, b: usize) -> usize
     let Found::At(k) = leaf_at(w, i, b) else {
         return 0;
     };
-    let size = type_word(w, k, 1) as u32;
-    let class = type_word(w, k, 0);
+    let size = type_word(w, k, SIZE) as u32;
+    let class = type_word(w, k, CLASS);
     line_len(b as u32, size, class)
 }
 
@@ -48,8 +50,8 @@ fn put_leaf(list: &mut [u8], at: usize, w: &[u32], i: usize, b: usize) -> usize
     let Found::At(k) = leaf_at(w, i, b) else {
         return at;
     };
-    let size = type_word(w, k, 1) as u32;
-    let class = type_word(w, k, 0);
+    let size = type_word(w, k, SIZE) as u32;
+    let class = type_word(w, k, CLASS);
     put_line(list, at, b as u32, size, class)
 }
 

@@ -12,10 +12,16 @@ ghost use Rattle.leaves.specs.Lines.{Lists};
 use crate::leaf::lines_len;
 use crate::leaf::put_list;
 use answer::Answer;
-use sheet::SheetRead;
 use reading::read_sheet;
+use sheet::SheetRead;
+use table::HALF;
+use table::SIZE;
+use table::TABLE;
 use table::read::type_word;
 use table::store::clear;
+
+// The length of the list's header.
+const HEADER: usize = 14;
 
 pub mod column;
 pub mod leaf;
@@ -25,8 +31,8 @@ fn list_type(list: &mut [u8], w: &[u32], i: usize) -> Answer
     requires { ⌜ sizeWord (now w) i ≤ 4096 ⌝ }
     ensures { λ r. ⌜ ((t : List ℕ) → Lists (ofType (typeAt (now (w .entry)) t i)) (now (list .entry)) (now (list .exit)) r) ⌝ }
 {
-    let size = type_word(w, i, 1);
-    let len = 14 + lines_len(w, i, size);
+    let size = type_word(w, i, SIZE);
+    let len = HEADER + lines_len(w, i, size);
     if list.len() < len {
         return Answer::Room;
     }
@@ -51,10 +57,10 @@ pub fn leaf_list(sheet: &[u8], list: &mut [u8], table: &mut [u32]) -> Answer
     ensures list { λ r. ⌜ now (list .exit) ≡ listAfter (now (sheet .entry)) (now (list .entry)) (length (now (table .entry))) ⌝ }
     ensures table { λ r. ⌜ now (table .exit) ≡ tableAfter r (now (table .entry)) ⌝ }
 {
-    if table.len() < 8192 {
+    if table.len() < TABLE {
         return Answer::Table;
     }
-    let a = list_sheet(sheet, list, &mut table[..4096]);
-    clear(table, 8192);
+    let a = list_sheet(sheet, list, &mut table[..HALF]);
+    clear(table, TABLE);
     a
 }

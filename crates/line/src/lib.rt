@@ -5,7 +5,6 @@ use bits::Order;
 use layout::Layout;
 use layout::Pad;
 
-
 // What a line says, and the place behind it. A value's number is its sign and its distance from 0, or from -1 where it is negative.
 pub enum Line {
     // The layout of an int or a bits.

@@ -5,9 +5,9 @@ ghost use Rattle.line.specs.Read.{Reads, columnsReading, arrayRead};
 use line::Line;
 use line::Next;
 use line::ReadLine;
+use line::plain;
 use line_columns::next_line;
 use line_columns::number_column;
-use line::plain;
 use text::Field;
 
 fn an_array(base: u32, dims: [u32; 4], next: usize) -> ReadLine

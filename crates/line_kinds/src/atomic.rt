@@ -3,6 +3,10 @@ ghost use mathlib.Core.Path.{_≡_};
 ghost use Rattle.line.specs.Line.{intLine, bitsLine};
 ghost use Rattle.line.specs.Column.{placeAt, padsAt, layoutAt, signedAs};
 ghost use Rattle.line.specs.Read.{Reads, columnsReading, plainLine};
+use bits::BitAt;
+use bits::ByteAt;
+use layout::Class;
+use layout::Layout;
 use line::LayoutColumns;
 use line::Line;
 use line::Next;
@@ -16,10 +20,6 @@ use line_columns::number_column;
 use line_columns::order_column;
 use line_columns::pad_column;
 use line_columns::sign_column;
-use bits::BitAt;
-use bits::ByteAt;
-use layout::Class;
-use layout::Layout;
 use text::Field;
 
 fn place_columns(s: &[u8], q: usize) -> PlaceColumns

@@ -1,4 +1,4 @@
 // The lines of each kind of type, value and member, behind their first word.
-pub mod atomic;
 pub mod array;
+pub mod atomic;
 pub mod kind;

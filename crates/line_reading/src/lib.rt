@@ -4,6 +4,7 @@ ghost use Rattle.text.specs.Place.{fieldAt};
 ghost use Rattle.line.specs.Read.{Reads, lineReading, kindReading, laterKind};
 use line::Line;
 use line::ReadLine;
+use line::plain;
 use line_kinds::array::array_line;
 use line_kinds::atomic::bits_line;
 use line_kinds::atomic::int_line;
@@ -11,7 +12,6 @@ use line_kinds::kind::comp_line;
 use line_kinds::kind::enum_line;
 use line_kinds::kind::member_line;
 use line_kinds::kind::value_line;
-use line::plain;
 use text::field_end;
 use text::word_at;
 

@@ -15,7 +15,16 @@ use paths::types::count_at;
 use paths::types::kind_at;
 use paths::types::row_of_name;
 use paths::types::row_over;
+use table::ARRAY;
+use table::BASE;
+use table::COMPOUND;
+use table::FIRST;
 use table::Found;
+use table::MEMBER_OFFSET;
+use table::MEMBER_TYPE;
+use table::MOST_TYPES;
+use table::ROWS;
+use table::SIZE;
 use table::read::row_word;
 use table::read::type_word;
 
@@ -26,10 +35,10 @@ fn match_named(ws: &[u32], ts: &[u8], s: usize, wd: &[u32], td: &[u8], j: usize,
 {
     match row_of_name(ws, ts, s, wd, td, j) {
         Found::At(m) => {
-            let from = row_word(ws, m, 2);
-            let k = row_word(ws, m, 3);
-            let l = row_word(wd, j, 3);
-            let offset = row_word(wd, j, 2);
+            let from = row_word(ws, m, MEMBER_OFFSET);
+            let k = row_word(ws, m, MEMBER_TYPE);
+            let l = row_word(wd, j, MEMBER_TYPE);
+            let offset = row_word(wd, j, MEMBER_OFFSET);
             Walk::On(from, k, l, minus(b, offset))
         }
         Found::Missing => Walk::Off,
@@ -49,8 +58,8 @@ fn match_compound(
     requires { ⌜ (kindAt (now ws) s ≡ 3) × (kindAt (now wd) d ≡ 3) ⌝ }
     ensures { λ r. ⌜ Leads (now (ws .entry)) (now (ts .entry)) s (now (wd .entry)) (now (td .entry)) d b r ⌝ }
 {
-    let first = type_word(wd, d, 9);
-    let n = type_word(wd, d, 10);
+    let first = type_word(wd, d, FIRST);
+    let n = type_word(wd, d, ROWS);
     match row_over(wd, first, n, b) {
         Found::At(j) => match_named(ws, ts, s, wd, td, j, b),
         Found::Missing => Walk::Off,
@@ -65,11 +74,11 @@ fn match_array(ws: &[u32], s: usize, wd: &[u32], d: usize, b: usize) -> Walk
     if count_at(ws, s) != count_at(wd, d) {
         return Walk::Off;
     }
-    let z = type_word(wd, d, 1);
-    let l = type_word(wd, d, 8);
-    let y = type_word(wd, l, 1);
-    let k = type_word(ws, s, 8);
-    let x = type_word(ws, k, 1);
+    let z = type_word(wd, d, SIZE);
+    let l = type_word(wd, d, BASE);
+    let y = type_word(wd, l, SIZE);
+    let k = type_word(ws, s, BASE);
+    let x = type_word(ws, k, SIZE);
     if b < z {
         Walk::On(quotient(b, y) * x, k, l, remainder(b, y))
     } else {
@@ -82,21 +91,21 @@ fn match_step(ws: &[u32], ts: &[u8], s: usize, wd: &[u32], td: &[u8], d: usize, 
 {
     let from = kind_at(ws, s);
     let to = kind_at(wd, d);
-    if to == 3 {
-        if from == 3 {
+    if to == COMPOUND {
+        if from == COMPOUND {
             match_compound(ws, ts, s, wd, td, d, b)
         } else {
             Walk::Off
         }
-    } else if to == 4 {
-        if from == 4 {
+    } else if to == ARRAY {
+        if from == ARRAY {
             match_array(ws, s, wd, d, b)
         } else {
             Walk::Off
         }
     } else if b != 0 {
         Walk::Off
-    } else if 3 <= from {
+    } else if COMPOUND <= from {
         Walk::Off
     } else {
         Walk::Same
@@ -112,7 +121,7 @@ pub fn match_at(ws: &[u32], ts: &[u8], i: usize, wd: &[u32], td: &[u8], k: usize
     let mut d = k;
     let mut at = b;
     let mut from: usize = 0;
-    let mut left: usize = 64;
+    let mut left: usize = MOST_TYPES;
     while 0 < left {
         match match_step(ws, ts, s, wd, td, d, at) {
             Walk::On(further, source, destination, byte) => {

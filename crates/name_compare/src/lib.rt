@@ -4,6 +4,8 @@ ghost use Prim.Native.Nat.{_<_};
 ghost use lib.ListN.{getD};
 ghost use Rattle.datatype.specs.Datatype.{same};
 ghost use Rattle.table.specs.Table.{bytesAt, nameAt};
+use table::NAME;
+use table::NAME_LENGTH;
 use table::read::row_word;
 
 // Byte k of a text, and 0 past its end.
@@ -51,7 +53,7 @@ pub fn has_name(w: &[u32], t: &[u8], j: usize, x: &[u8], start: usize, len: usiz
     requires { ⌜ (start < 4294967296) × (len < 4294967296) ⌝ }
     ensures { λ r. ⌜ r ≡ same (bytesAt (now (x .entry)) start len) (nameAt (now (w .entry)) (now (t .entry)) j) ⌝ }
 {
-    let s = row_word(w, j, 0);
-    let n = row_word(w, j, 1);
+    let s = row_word(w, j, NAME);
+    let n = row_word(w, j, NAME_LENGTH);
     same_name(x, start, len, t, s, n)
 }

@@ -2,7 +2,6 @@
 
 pub mod sign;
 
-
 // A number from -2^63 to 2^64 - 1: an i64 where it was read from a signed place.
 pub enum Number {
     Signed(i64),

@@ -13,13 +13,14 @@ use bits::ByteAt;
 use bits::shift::ones;
 use easy::at;
 use easy::raw_by;
+use fitting::fit_raw;
 use layout::Layout;
 use number::Fitted;
 use number::Parts;
-use fitting::fit_raw;
+use number::sign::split;
 use placing::raw_at;
 use placing::store;
-use number::sign::split;
+use row_lookup::row_numbered;
 use table::Found;
 use table::codes::flag_of;
 use table::codes::order_of;
@@ -27,7 +28,6 @@ use table::read::layout_at;
 use table::read::row_word;
 use table::read::type_word;
 use table::read::word;
-use row_lookup::row_numbered;
 
 // a - b, and 0 where b is larger.
 fn minus(a: u64, b: u64) -> u64

@@ -8,14 +8,14 @@ ghost use Rattle.number.specs.Place.{stored};
 ghost use Rattle.table.specs.Table.{layoutAt};
 ghost use Rattle.plans.specs.PlanWords.{Pair, pairBecomes, Ready, entriesOf};
 ghost use Rattle.plans.specs.PlanEntries.{EntryReady, raisingOf};
-use plans::PlanEntry;
-use plans::Raising;
+use easy::at;
+use easy::convert_easy;
 use one_leaf::convert_enum;
 use one_leaf::convert_leaf;
 use one_leaf::leaf_kind;
 use plan_words::entry;
-use easy::at;
-use easy::convert_easy;
+use plans::PlanEntry;
+use plans::Raising;
 
 // Converts the leaf of entry i, which is e: an easy one and a small enum by its words where eight bytes are there to be read. The kind of exception is returned.
 fn write_entry(

@@ -11,7 +11,14 @@ use paths::Turn;
 use paths::types::count_at;
 use paths::types::kind_at;
 use paths::types::row_of_name;
+use table::ARRAY;
+use table::BASE;
+use table::COMPOUND;
+use table::FIRST;
 use table::Found;
+use table::MEMBER_TYPE;
+use table::MOST_TYPES;
+use table::ROWS;
 use table::read::row_word;
 use table::read::type_word;
 
@@ -23,16 +30,16 @@ fn path_turn(ws: &[u32], s: usize, wd: &[u32], d: usize) -> Turn
     if to != from {
         return Turn::Answer(false);
     }
-    if to == 3 {
+    if to == COMPOUND {
         return Turn::Lists;
     }
-    if to != 4 {
+    if to != ARRAY {
         return Turn::Answer(true);
     }
     if count_at(ws, s) != count_at(wd, d) {
         return Turn::Answer(false);
     }
-    Turn::Bases(type_word(ws, s, 8), type_word(wd, d, 8))
+    Turn::Bases(type_word(ws, s, BASE), type_word(wd, d, BASE))
 }
 
 // The types of the destination's member in row j and of the member of its name in the source compound s.
@@ -40,7 +47,7 @@ fn path_inner(ws: &[u32], ts: &[u8], s: usize, wd: &[u32], td: &[u8], j: usize) 
     ensures { λ r. ⌜ Inside (now (ws .entry)) (now (ts .entry)) s (now (wd .entry)) (now (td .entry)) j r ⌝ }
 {
     match row_of_name(ws, ts, s, wd, td, j) {
-        Found::At(m) => Inner::Both(row_word(ws, m, 3), row_word(wd, j, 3)),
+        Found::At(m) => Inner::Both(row_word(ws, m, MEMBER_TYPE), row_word(wd, j, MEMBER_TYPE)),
         Found::Missing => Inner::Neither,
     }
 }
@@ -57,8 +64,8 @@ fn path_to(ws: &[u32], ts: &[u8], s: usize, wd: &[u32], td: &[u8], d: usize, dep
         Turn::Answer(a) => a,
         Turn::Bases(k, l) => path_to(ws, ts, k, wd, td, l, depth - 1),
         Turn::Lists => {
-            let first = type_word(wd, d, 9);
-            let mut left = type_word(wd, d, 10);
+            let first = type_word(wd, d, FIRST);
+            let mut left = type_word(wd, d, ROWS);
             while 0 < left {
                 left -= 1;
                 match path_inner(ws, ts, s, wd, td, first + left) {
@@ -80,5 +87,5 @@ pub fn has_path(ws: &[u32], ts: &[u8], i: usize, wd: &[u32], td: &[u8], k: usize
     requires { ⌜ WellFormed (typeAt (now ws) (now ts) i) × WellFormed (typeAt (now wd) (now td) k) ⌝ }
     ensures { λ r. ⌜ r ≡ hasPath (typeAt (now (ws .entry)) (now (ts .entry)) i) (typeAt (now (wd .entry)) (now (td .entry)) k) ⌝ }
 {
-    path_to(ws, ts, i, wd, td, k, 64)
+    path_to(ws, ts, i, wd, td, k, MOST_TYPES)
 }

@@ -11,7 +11,16 @@ use crate::numbers::minus;
 use crate::numbers::remainder;
 use crate::types::kind_at;
 use crate::types::row_over;
+use table::ARRAY;
+use table::BASE;
+use table::COMPOUND;
+use table::FIRST;
 use table::Found;
+use table::MEMBER_OFFSET;
+use table::MEMBER_TYPE;
+use table::MOST_TYPES;
+use table::ROWS;
+use table::SIZE;
 use table::read::row_word;
 use table::read::type_word;
 
@@ -19,17 +28,20 @@ fn leaf_step(w: &[u32], i: usize, b: usize) -> Step
     ensures { λ r. ⌜ LeafStep (now (w .entry)) i b r ⌝ }
 {
     let kind = kind_at(w, i);
-    if kind == 3 {
-        let first = type_word(w, i, 9);
-        let n = type_word(w, i, 10);
+    if kind == COMPOUND {
+        let first = type_word(w, i, FIRST);
+        let n = type_word(w, i, ROWS);
         match row_over(w, first, n, b) {
-            Found::At(j) => Step::Go(row_word(w, j, 3), minus(b, row_word(w, j, 2))),
+            Found::At(j) => Step::Go(
+                row_word(w, j, MEMBER_TYPE),
+                minus(b, row_word(w, j, MEMBER_OFFSET)),
+            ),
             Found::Missing => Step::Gone,
         }
-    } else if kind == 4 {
-        let z = type_word(w, i, 1);
-        let k = type_word(w, i, 8);
-        let y = type_word(w, k, 1);
+    } else if kind == ARRAY {
+        let z = type_word(w, i, SIZE);
+        let k = type_word(w, i, BASE);
+        let y = type_word(w, k, SIZE);
         if b < z {
             Step::Go(k, remainder(b, y))
         } else {
@@ -48,7 +60,7 @@ pub fn leaf_at(w: &[u32], i: usize, b: usize) -> Found
 {
     let mut k = i;
     let mut at = b;
-    let mut left: usize = 64;
+    let mut left: usize = MOST_TYPES;
     while 0 < left {
         match leaf_step(w, k, at) {
             Step::Go(inner, byte) => {

@@ -6,10 +6,21 @@ ghost use Rattle.table.specs.Table.{nameAt, firstWord, rowsWord};
 ghost use Rattle.table.specs.Rows.{rowNamed};
 ghost use Rattle.paths.specs.Steps.{covers, rowOver, kindAt, Counts};
 use crate::numbers::quotient;
+use row_lookup::row_named;
+use table::BASE;
+use table::CLASS;
+use table::CLASSES;
+use table::FIRST;
 use table::Found;
+use table::INT;
+use table::MEMBER_OFFSET;
+use table::MEMBER_TYPE;
+use table::NAME;
+use table::NAME_LENGTH;
+use table::ROWS;
+use table::SIZE;
 use table::read::row_word;
 use table::read::type_word;
-use row_lookup::row_named;
 
 // Byte b lies in the z bytes from offset on.
 fn inside(offset: usize, z: usize, b: usize) -> bool
@@ -23,9 +34,9 @@ fn inside(offset: usize, z: usize, b: usize) -> bool
 fn row_covers(w: &[u32], j: usize, b: usize) -> bool
     ensures { λ r. ⌜ r ≡ covers (now (w .entry)) j b ⌝ }
 {
-    let offset = row_word(w, j, 2);
-    let k = row_word(w, j, 3);
-    let z = type_word(w, k, 1);
+    let offset = row_word(w, j, MEMBER_OFFSET);
+    let k = row_word(w, j, MEMBER_TYPE);
+    let z = type_word(w, k, SIZE);
     inside(offset, z, b)
 }
 
@@ -49,10 +60,10 @@ pub fn row_over(w: &[u32], first: usize, n: usize, b: usize) -> Found
 pub fn row_of_name(ws: &[u32], ts: &[u8], s: usize, wd: &[u32], td: &[u8], j: usize) -> Found
     ensures { λ r. ⌜ r ≡ rowNamed (now (ws .entry)) (now (ts .entry)) (nameAt (now (wd .entry)) (now (td .entry)) j) (firstWord (now (ws .entry)) s) (rowsWord (now (ws .entry)) s) ⌝ }
 {
-    let start = row_word(wd, j, 0);
-    let len = row_word(wd, j, 1);
-    let first = type_word(ws, s, 9);
-    let n = type_word(ws, s, 10);
+    let start = row_word(wd, j, NAME);
+    let len = row_word(wd, j, NAME_LENGTH);
+    let first = type_word(ws, s, FIRST);
+    let n = type_word(ws, s, ROWS);
     row_named(ws, ts, first, n, td, start, len)
 }
 
@@ -60,16 +71,16 @@ pub fn row_of_name(ws: &[u32], ts: &[u8], s: usize, wd: &[u32], td: &[u8], j: us
 pub fn kind_at(w: &[u32], i: usize) -> usize
     ensures { λ r. ⌜ r ≡ kindAt (now (w .entry)) i ⌝ }
 {
-    let class = type_word(w, i, 0);
-    if class < 5 { class } else { 0 }
+    let class = type_word(w, i, CLASS);
+    if class < CLASSES { class } else { INT }
 }
 
 // How many elements the array type i has.
 pub fn count_at(w: &[u32], i: usize) -> usize
     ensures { λ r. ⌜ Counts (now (w .entry)) i r ⌝ }
 {
-    let z = type_word(w, i, 1);
-    let k = type_word(w, i, 8);
-    let y = type_word(w, k, 1);
+    let z = type_word(w, i, SIZE);
+    let k = type_word(w, i, BASE);
+    let y = type_word(w, k, SIZE);
     quotient(z, y)
 }

@@ -6,8 +6,8 @@ ghost use Rattle.datatype.specs.WellFormed.{WellFormed};
 ghost use Rattle.table.specs.Table.{typeAt};
 ghost use Rattle.paths.specs.Leaf.{Small};
 ghost use Rattle.paths.specs.Plan.{Added, Planned, entryPut};
-use paths::Pair;
 use matching::match_at;
+use paths::Pair;
 use table::read::type_word;
 
 // Entry n: the destination's byte, the source's byte, the source leaf's type number and the destination leaf's.

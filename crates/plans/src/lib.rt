@@ -2,10 +2,12 @@
 
 // An entry of the plan is two words: the destination's byte and the source's byte, by this factor, and the source leaf's type number and the destination leaf's.
 pub const BYTES: usize = 4096;
+
 pub const TYPES: usize = 64;
 
 // What stands in the words beside a plan: ids of names in the first ones, then so many words for each entry.
 pub const NAMES: usize = 512;
+
 pub const ENTRY_WORDS: usize = 4;
 
 // One entry of the plan.

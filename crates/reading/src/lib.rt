@@ -7,8 +7,6 @@ ghost use Rattle.line.specs.Read.{nextAfter, namesWithin};
 ghost use Rattle.table.specs.Table.{Holds};
 ghost use Rattle.sheet.specs.Judged.{soFarAt, Judges};
 ghost use Rattle.sheet.specs.Read.{readJudged, ReadsLines, ReadsSheet};
-use sheet::Judged;
-use sheet::SheetRead;
 use judging::judge_array;
 use judging::judge_atomic;
 use judging::judge_compound;
@@ -18,6 +16,9 @@ use judging::judge_value;
 use line::Line;
 use line::ReadLine;
 use line_reading::read_line;
+use sheet::Judged;
+use sheet::MOST_TEXT;
+use sheet::SheetRead;
 
 // What a line that was read adds to the table.
 fn judge_line(w: &mut [u32], t: &[u8], n: u32, m: u32, r: ReadLine) -> Judged
@@ -97,7 +98,7 @@ pub fn read_sheet(t: &[u8], w: &mut [u32]) -> SheetRead
     requires { ⌜ length (now w) ≡ 4096 ⌝ }
     ensures { λ r. ⌜ ReadsSheet (now (t .entry)) (now (w .exit)) r ⌝ }
 {
-    if 16384 < t.len() {
+    if MOST_TEXT < t.len() {
         return SheetRead::Faulty(0);
     }
     match read_lines(t, w) {

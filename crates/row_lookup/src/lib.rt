@@ -5,9 +5,13 @@ ghost use Rattle.number.specs.Parts.{signedBy};
 ghost use Rattle.datatype.specs.Symbols.{sameNumber};
 ghost use Rattle.table.specs.Table.{bytesAt, valueAt};
 ghost use Rattle.table.specs.Rows.{rowNamed, rowNumbered};
-use table::Found;
-use table::codes::flag_of;
 use name_compare::has_name;
+use table::Found;
+use table::HIGH;
+use table::VALUE_HIGH;
+use table::VALUE_LOW;
+use table::VALUE_SIGN;
+use table::codes::flag_of;
 use table::read::row_word;
 
 // Of the n rows from first on, the newest whose name is the len bytes of x from start on.
@@ -38,10 +42,10 @@ pub fn row_named(
 fn has_number(w: &[u32], j: usize, negative: bool, distance: u64) -> bool
     ensures { λ r. ⌜ r ≡ sameNumber (signedBy negative distance) (valueAt (now (w .entry)) j) ⌝ }
 {
-    let sign = flag_of(row_word(w, j, 2));
-    let low = row_word(w, j, 3);
-    let high = row_word(w, j, 4);
-    let held = (low + high * 4294967296) as u64;
+    let sign = flag_of(row_word(w, j, VALUE_SIGN));
+    let low = row_word(w, j, VALUE_LOW);
+    let high = row_word(w, j, VALUE_HIGH);
+    let held = (low + high * HIGH) as u64;
     if sign {
         if negative { distance == held } else { false }
     } else {

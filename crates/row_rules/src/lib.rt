@@ -1,4 +1,4 @@
 // Whether a type in the table may have a value or a member more, and the size of an array.
-pub mod value;
 pub mod member;
 pub mod product;
+pub mod value;

@@ -5,18 +5,23 @@ ghost use Rattle.table.specs.Table.{typeAt, bytesAt, membersAt, sizeWord, first
 ghost use Rattle.sheet.specs.Sheet.{mayPlace};
 ghost use Rattle.sheet.specs.Steps.{isBeside, apartAt};
 use crate::value::is_missing;
+use row_lookup::row_named;
+use table::FIRST;
+use table::MEMBER_OFFSET;
+use table::MEMBER_TYPE;
+use table::ROWS;
+use table::SIZE;
 use table::read::row_word;
 use table::read::type_word;
-use row_lookup::row_named;
 
 // The width bytes from offset on overlap no byte of the member in row j.
 fn is_beside(w: &[u32], j: usize, offset: usize, width: usize) -> bool
     requires { ⌜ (offset < 4294967296) × (width < 4294967296) ⌝ }
     ensures { λ r. ⌜ r ≡ isBeside (now (w .entry)) j offset width ⌝ }
 {
-    let o = row_word(w, j, 2);
-    let k = row_word(w, j, 3);
-    let z = type_word(w, k, 1);
+    let o = row_word(w, j, MEMBER_OFFSET);
+    let k = row_word(w, j, MEMBER_TYPE);
+    let z = type_word(w, k, SIZE);
     if offset + width <= o {
         return true;
     }
@@ -51,12 +56,12 @@ pub fn may_place(
     requires { ⌜ (start < 4294967296) × (len < 4294967296) × (offset < 4294967296) × (width < 4294967296) ⌝ }
     ensures { λ r. ⌜ r ≡ mayPlace (sizeWord (now (w .entry)) i) (membersAt (typeAt (now (w .entry)) (now (t .entry))) (now (w .entry)) (now (t .entry)) (firstWord (now (w .entry)) i) (rowsWord (now (w .entry)) i)) (bytesAt (now (t .entry)) start len) offset width ⌝ }
 {
-    let first = type_word(w, i, 9);
-    let rows = type_word(w, i, 10);
+    let first = type_word(w, i, FIRST);
+    let rows = type_word(w, i, ROWS);
     if !is_missing(row_named(w, t, first, rows, t, start, len)) {
         return false;
     }
-    if type_word(w, i, 1) < offset + width {
+    if type_word(w, i, SIZE) < offset + width {
         return false;
     }
     is_apart(w, first, rows, offset, width)

@@ -4,6 +4,11 @@ ghost use Prim.Native.Nat.{_<_};
 ghost use Rattle.sheet.specs.Steps.{totalOf};
 use sheet::Total;
 
+// An array has at most so many dimensions and bytes.
+const RANKS: usize = 4;
+
+const MOST_BYTES: usize = 4096;
+
 // The dimensions' product times size, factor by factor, so that nothing wraps. A dimension of 0 ends them.
 pub fn total(dims: [u32; 4], size: usize) -> Total
     requires { ⌜ size < 4294967296 ⌝ }
@@ -11,9 +16,9 @@ pub fn total(dims: [u32; 4], size: usize) -> Total
 {
     let mut p = size;
     let mut q: usize = 0;
-    while q < 4 {
+    while q < RANKS {
         let d = dims[q] as usize;
-        if 4096 < p {
+        if MOST_BYTES < p {
             return Total::TooMany;
         }
         if d == 0 {
@@ -22,7 +27,7 @@ pub fn total(dims: [u32; 4], size: usize) -> Total
         p *= d;
         q += 1;
     }
-    if 4096 < p {
+    if MOST_BYTES < p {
         Total::TooMany
     } else {
         Total::Bytes(p as u32)

@@ -9,11 +9,13 @@ ghost use Rattle.sheet.specs.Sheet.{mayList};
 ghost use Rattle.sheet.specs.Steps.{isMissing};
 use bits::shift::ones;
 use layout::Layout;
-use table::Found;
-use table::read::layout_at;
-use table::read::type_word;
 use row_lookup::row_named;
 use row_lookup::row_numbered;
+use table::FIRST;
+use table::Found;
+use table::ROWS;
+use table::read::layout_at;
+use table::read::type_word;
 
 pub fn is_missing(f: Found) -> bool
     ensures { λ r. ⌜ r ≡ isMissing f ⌝ }
@@ -63,8 +65,8 @@ pub fn may_list(
     requires { ⌜ (start < 4294967296) × (len < 4294967296) ⌝ }
     ensures { λ r. ⌜ r ≡ mayList (layoutAt (now (w .entry)) i) (symbolsAt (now (w .entry)) (now (t .entry)) (firstWord (now (w .entry)) i) (rowsWord (now (w .entry)) i)) (bytesAt (now (t .entry)) start len) (signedBy negative distance) ⌝ }
 {
-    let first = type_word(w, i, 9);
-    let rows = type_word(w, i, 10);
+    let first = type_word(w, i, FIRST);
+    let rows = type_word(w, i, ROWS);
     if !is_missing(row_named(w, t, first, rows, t, start, len)) {
         return false;
     }

@@ -1,4 +1,5 @@
 -- Whole calls of the four converting forms: from everything that is lent to the answer and every buffer afterwards.
+use mathlib.Core.Path.{_≡_}
 use mathlib.Core.Bool.{Bool, true, false, _&&_}
 use mathlib.Core.List.{List, _++_}
 use Prim.Native.Nat.{ℕ, zero, suc, _*_, max}
@@ -158,3 +159,11 @@ tableAfter Count table = cleared table
 tableAfter Room table = cleared table
 tableAfter (Stop i at kind) table = cleared table
 tableAfter Range table = cleared table
+
+-- ---- what each converting form promises
+
+-- a call's answer r, the buffer that it writes and the table, afterwards: all as the run says
+pub record Answers (run : Run) (r : Answer) (out table : List ℕ) : Type 0 where
+  pub answers : r ≡ answer run
+  pub leaves : out ≡ after run
+  pub clears : table ≡ tableAfter r (run .table)

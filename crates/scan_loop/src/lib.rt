@@ -6,8 +6,8 @@ ghost use Rattle.records.specs.Plan.{planOf};
 ghost use Rattle.plans.specs.PlanWords.{Job};
 ghost use Rattle.loops.specs.Stops.{stopBy};
 use loops::Stop;
-use plans::Raising;
 use one_record::first_raising;
+use plans::Raising;
 
 // The first of c records of s bytes in src that raises an exception, and its first leaf that does.
 pub fn first_exception(

@@ -1,5 +1,14 @@
 // Layout sheets: what a line adds to the types and rows in the working table.
 
+// "At most 64 types, 256 value and member lines together, 16,384 bytes"; a compound and an array have at most 4,096 bytes.
+pub const MOST_TYPES: u32 = 64;
+
+pub const MOST_ROWS: u32 = 256;
+
+pub const MOST_BYTES: u32 = 4096;
+
+pub const MOST_TEXT: usize = 16384;
+
 // The types and rows after an accepted line; or the line is refused.
 pub enum Judged {
     Accepted(u32, u32),

@@ -2,8 +2,8 @@
 ghost use Prim.Native.Nat.{_<_};
 ghost use lib.ListN.{length};
 use libc::STDOUT_FILENO;
-use sheet::SheetRead;
 use reading::read_sheet;
+use sheet::SheetRead;
 
 fn show(text: &[u8]) {
     io::write_all(STDOUT_FILENO, text);

@@ -4,6 +4,19 @@ ghost use Prim.Native.Nat.{_<_};
 ghost use lib.ListN.{getD};
 ghost use Rattle.table.specs.Table.{typeWord, rowWord, layoutAt};
 ghost use Rattle.table.specs.Words.{Reads};
+use crate::CLASS;
+use crate::LSB;
+use crate::MOST_ROWS;
+use crate::MOST_TYPES;
+use crate::MSB;
+use crate::OFFSET;
+use crate::ORDER;
+use crate::PRECISION;
+use crate::ROW_WORDS;
+use crate::ROWS_AT;
+use crate::SIGN;
+use crate::SIZE;
+use crate::TYPE_WORDS;
 use crate::codes::class_of;
 use crate::codes::flag_of;
 use crate::codes::order_of;
@@ -24,7 +37,11 @@ pub fn type_word(w: &[u32], i: usize, q: usize) -> usize
     requires { ⌜ q < 16 ⌝ }
     ensures { λ r. ⌜ Reads (typeWord (now (w .entry)) i q) r ⌝ }
 {
-    if i < 64 { word(w, 16 * i + q) } else { 0 }
+    if i < MOST_TYPES {
+        word(w, TYPE_WORDS * i + q)
+    } else {
+        0
+    }
 }
 
 // Word q of the record of row j.
@@ -32,8 +49,8 @@ pub fn row_word(w: &[u32], j: usize, q: usize) -> usize
     requires { ⌜ q < 8 ⌝ }
     ensures { λ r. ⌜ Reads (rowWord (now (w .entry)) j q) r ⌝ }
 {
-    if j < 256 {
-        word(w, 1024 + 8 * j + q)
+    if j < MOST_ROWS {
+        word(w, ROWS_AT + ROW_WORDS * j + q)
     } else {
         0
     }
@@ -43,14 +60,14 @@ pub fn row_word(w: &[u32], j: usize, q: usize) -> usize
 pub fn layout_at(w: &[u32], i: usize) -> Layout
     ensures { λ r. ⌜ (r ≡ layoutAt (now (w .entry)) i) × (r .size .0 < 4294967296) ⌝ }
 {
-    let class = class_of(type_word(w, i, 0));
-    let size = type_word(w, i, 1);
-    let order = order_of(type_word(w, i, 2));
-    let offset = type_word(w, i, 3) as u32;
-    let precision = type_word(w, i, 4) as u32;
-    let lsb = pad_of(type_word(w, i, 5));
-    let msb = pad_of(type_word(w, i, 6));
-    let signed = flag_of(type_word(w, i, 7));
+    let class = class_of(type_word(w, i, CLASS));
+    let size = type_word(w, i, SIZE);
+    let order = order_of(type_word(w, i, ORDER));
+    let offset = type_word(w, i, OFFSET) as u32;
+    let precision = type_word(w, i, PRECISION) as u32;
+    let lsb = pad_of(type_word(w, i, LSB));
+    let msb = pad_of(type_word(w, i, MSB));
+    let signed = flag_of(type_word(w, i, SIGN));
     Layout {
         class,
         size: ByteAt(size),

@@ -6,6 +6,10 @@ ghost use lib.ListN.{length, set, drop, replicate};
 ghost use lib.Seq.{paste};
 ghost use Rattle.table.specs.Table.{rowsWord};
 ghost use Rattle.table.specs.Records.{rowAdded, typesCleared};
+use crate::ROW_WORDS;
+use crate::ROWS;
+use crate::ROWS_AT;
+use crate::TYPE_WORDS;
 use crate::read::type_word;
 
 // The words of r from word k on.
@@ -26,7 +30,7 @@ pub fn put_type(w: &mut [u32], i: usize, r: [u32; 16])
     requires { ⌜ (i < 64) × (length (now w) ≡ 4096) ⌝ }
     ensures { λ _. ⌜ now (w .exit) ≡ paste (now (w .entry)) (16 * i) r 16 ⌝ }
 {
-    put(w, 16 * i, &r);
+    put(w, TYPE_WORDS * i, &r);
 }
 
 // The record of row j.
@@ -34,7 +38,7 @@ pub fn put_row(w: &mut [u32], j: usize, r: [u32; 8])
     requires { ⌜ (j < 256) × (length (now w) ≡ 4096) ⌝ }
     ensures { λ _. ⌜ now (w .exit) ≡ paste (now (w .entry)) (1024 + 8 * j) r 8 ⌝ }
 {
-    put(w, 1024 + 8 * j, &r);
+    put(w, ROWS_AT + ROW_WORDS * j, &r);
 }
 
 // How many rows type i has.
@@ -42,7 +46,7 @@ pub fn put_rows_word(w: &mut [u32], i: usize, n: u32)
     requires { ⌜ (i < 64) × (length (now w) ≡ 4096) ⌝ }
     ensures { λ _. ⌜ now (w .exit) ≡ set (now (w .entry)) (16 * i + 10) n ⌝ }
 {
-    let at = 16 * i + 10;
+    let at = TYPE_WORDS * i + ROWS;
     w[at] = n;
 }
 
@@ -51,7 +55,7 @@ pub fn add_row(w: &mut [u32], i: usize, j: usize, r: [u32; 8])
     requires { ⌜ (i < 64) × (j < 256) × (length (now w) ≡ 4096) × (rowsWord (now w) i ≤ 256) ⌝ }
     ensures { λ _. ⌜ now (w .exit) ≡ rowAdded (now (w .entry)) i j r ⌝ }
 {
-    let rows = type_word(w, i, 10) as u32;
+    let rows = type_word(w, i, ROWS) as u32;
     put_row(w, j, r);
     put_rows_word(w, i, rows + 1);
 }
@@ -61,9 +65,9 @@ pub fn clear_types(w: &mut [u32], n: usize)
     requires { ⌜ (n ≤ 64) × (length (now w) ≡ 4096) ⌝ }
     ensures { λ _. ⌜ now (w .exit) ≡ typesCleared (now (w .entry)) n ⌝ }
 {
-    let from = 16 * n;
+    let from = TYPE_WORDS * n;
     let mut q: usize = 0;
-    while q < 1024 - from {
+    while q < ROWS_AT - from {
         let at = from + q;
         w[at] = 0;
         q += 1;

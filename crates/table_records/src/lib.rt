@@ -2,11 +2,21 @@
 ghost use mathlib.Core.Path.{_≡_};
 ghost use Prim.Native.Nat.{_<_};
 ghost use Rattle.table.specs.Records.{layoutRecord, atomicRecord, enumRecord, compoundRecord, arrayRecord, valueRecord, memberRecord};
+use layout::Layout;
 use table::codes::class_code;
 use table::codes::flag_code;
 use table::codes::order_code;
 use table::codes::pad_code;
-use layout::Layout;
+
+// Class words.
+const ENUM: u32 = 2;
+
+const COMPOUND: u32 = 3;
+
+const ARRAY: u32 = 4;
+
+// What one of the high half of a distance is worth.
+const HIGH: u64 = 4294967296;
 
 fn layout_record(class: u32, l: Layout, first: u32) -> [u32; 16]
     requires { ⌜ l .size .0 < 4294967296 ⌝ }
@@ -53,21 +63,21 @@ pub fn enum_record(l: Layout, first: u32) -> [u32; 16]
     requires { ⌜ l .size .0 < 4294967296 ⌝ }
     ensures { λ r. ⌜ r ≡ enumRecord l first ⌝ }
 {
-    layout_record(2, l, first)
+    layout_record(ENUM, l, first)
 }
 
 // A compound without members.
 pub fn compound_record(size: u32, first: u32) -> [u32; 16]
     ensures { λ r. ⌜ r ≡ compoundRecord size first ⌝ }
 {
-    [3, size, 0, 0, 0, 0, 0, 0, 0, first, 0, 0, 0, 0, 0, 0]
+    [COMPOUND, size, 0, 0, 0, 0, 0, 0, 0, first, 0, 0, 0, 0, 0, 0]
 }
 
 pub fn array_record(size: u32, base: u32, first: u32, dims: [u32; 4]) -> [u32; 16]
     ensures { λ r. ⌜ r ≡ arrayRecord size base first dims ⌝ }
 {
     [
-        4,
+        ARRAY,
         size,
         0,
         0,
@@ -90,8 +100,8 @@ pub fn value_record(start: u32, len: u32, negative: bool, distance: u64) -> [u32
     ensures { λ r. ⌜ r ≡ valueRecord start len negative distance ⌝ }
 {
     let sign = flag_code(negative);
-    let low = (distance % 4294967296) as u32;
-    let high = (distance / 4294967296) as u32;
+    let low = (distance % HIGH) as u32;
+    let high = (distance / HIGH) as u32;
     [start, len, sign, low, high, 0, 0, 0]
 }
 

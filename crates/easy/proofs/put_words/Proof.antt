@@ -18,7 +18,7 @@ returns c =
 returns-2 : tie.Need-returns-2
 returns-2 c =
     let b = c .before .before in
-    rw (sym (b .before .before .before .have-words .ensures) ∙ b .before .before .if1 .left) (b .put-eight .ensures)
+    rw (sym (b .before .before .before .have-words .ensures) ∙ b .before .before .if1 .left) (b .put-four .ensures)
 
 pub put-words-spec : {M : Type 1} → statement M
 put-words-spec =

@@ -1,10 +1,10 @@
 // Both sheets read, each into its half of the table.
 ghost use mathlib.Core.Path.{_≡_};
 ghost use lib.ListN.{length};
-ghost use Rattle.convert.specs.Call.{SourceRead, SheetsRead};
+ghost use Rattle.two_sheets.specs.TwoSheets.{SourceRead, SheetsRead};
 use crate::Sheets;
-use sheet::SheetRead;
 use reading::read_sheet;
+use sheet::SheetRead;
 
 // The destination sheet, where the source's types stand in the first half: n of them.
 fn read_destination(ss: &[u8], ds: &[u8], table: &mut [u32], n: u32, m: u32) -> Sheets
