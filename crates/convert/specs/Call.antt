@@ -5,12 +5,9 @@ use mathlib.Core.List.{List}
 use Prim.Native.Nat.{ℕ, _*_, _≤_}
 use Rattle.answer.specs.declared.Answer.{Answer}
 use Rattle.datatype.specs.Datatype.{Datatype, size}
-use Rattle.datatype.specs.WellFormed.{WellFormed}
 use Rattle.table.specs.Table.{typeAt}
-use Rattle.table.specs.Records.{RowsInside}
 use Rattle.records.specs.Records.{readings, exceptions}
-use Rattle.plans.specs.PlanWords.{wordsPlace}
-use Rattle.two_sheets.specs.TwoSheets.{first, second}
+use Rattle.two_sheets.specs.TwoSheets.{first, second, Both}
 use Rattle.runs.specs.Run.{Form, Checked, onChecked, handled, target, result, ifDone, typeChecks, sheetChecks}
 use Rattle.runs.specs.Run.Form.{copying, inPlace}
 use Rattle.runs.specs.Run.Checked.{refused, passed}
@@ -69,10 +66,7 @@ typesChecked inPlace n out other S D = typeChecks (formOf inPlace) n (sourceOf i
 
 -- type i of the half ws and type k of the half wd, which no check refuses
 pub record Passes (inPlace : Bool) (ss ds : List ℕ) (n out other : ℕ) (ws : List ℕ) (i : ℕ) (wd : List ℕ) (k : ℕ) : Type 0 where
-  pub source : WellFormed (typeAt ws ss i)
-  pub destination : WellFormed (typeAt wd ds k)
-  pub sourceRows : RowsInside ws
-  pub destinationRows : RowsInside wd
+  pub types : Both ss ws i ds wd k
   pub records : HasRecords inPlace n (size (typeAt ws ss i)) (size (typeAt wd ds k)) out other
 
 -- r says what the checks of the types i and k say
@@ -87,9 +81,3 @@ abbrev pub SheetsSay : Bool → List ℕ → List ℕ → ℕ → ℕ → ℕ �
 SheetsSay inPlace ss ds n out other w (Refuse a) = sheetsChecked inPlace ss ds n out other ≡ refused a
 SheetsSay inPlace ss ds n out other w (Pass i k) =
     (sheetsChecked inPlace ss ds n out other ≡ passed (typeAt (first w) ss i) (typeAt (second w) ds k)) × Passes inPlace ss ds n out other (first w) i (second w) k
-
--- the arrays of a call, by their lengths, have room for the plan to type k and its words
-pub record Frame (ds wd : List ℕ) (k plan words : ℕ) : Type 0 where
-  pub plan-room : 2 * size (typeAt wd ds k) ≤ plan
-  pub words-room : wordsPlace (size (typeAt wd ds k)) ≤ words
-  pub words-most : words ≤ 65536

@@ -13,7 +13,7 @@ use table::HALF;
 use table::SIZE;
 use table::read::type_word;
 use two_sheets::Sheets;
-use two_sheets::read::read_sheets;
+use two_sheets::read_sheets;
 
 // Whether the buffers, by their lengths, have room for c records of s bytes and as many of d bytes: `out` is the one that is written.
 fn has_room(in_place: bool, c: usize, s: usize, d: usize, out: usize, other: usize) -> bool

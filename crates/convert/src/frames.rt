@@ -6,13 +6,14 @@ ghost use lib.ListN.{length};
 ghost use Rattle.datatype.specs.Datatype.{size};
 ghost use Rattle.table.specs.Table.{typeAt};
 ghost use Rattle.runs.specs.Run.Checked.{passed};
-ghost use Rattle.convert.specs.Call.{Passes, Frame, LeavesIn};
+ghost use Rattle.plan_making.specs.Made.{Room};
+ghost use Rattle.convert.specs.Call.{Passes, LeavesIn};
 use crate::Conversion;
 use crate::planned::convert_planned;
 use answer::Answer;
 use table::SIZE;
 use table::read::type_word;
-use two_sheets::make_plan;
+use plan_making::make_plan;
 
 // A destination record of at most so many bytes goes with the small arrays.
 const SMALL: usize = 128;
@@ -29,7 +30,7 @@ fn convert_with(
     plan: &mut [u32],
     words: &mut [u32],
 ) -> Answer
-    requires { ⌜ Passes (x .«in_place») (now ss) (now ds) (x .count) (length (now out)) (length (now other)) (now ws) (x .source) (now wd) (x .destination) × (x .handling ≤ 1) × Frame (now ds) (now wd) (x .destination) (length (now plan)) (length (now words)) ⌝ }
+    requires { ⌜ Passes (x .«in_place») (now ss) (now ds) (x .count) (length (now out)) (length (now other)) (now ws) (x .source) (now wd) (x .destination) × (x .handling ≤ 1) × Room (now ds) (now wd) (x .destination) (length (now plan)) (length (now words)) ⌝ }
     ensures { λ r. ⌜ LeavesIn (x .«in_place») (x .handling) (x .count) (now (out .entry)) (now (other .entry)) (passed (typeAt (now (ws .entry)) (now (ss .entry)) (x .source)) (typeAt (now (wd .entry)) (now (ds .entry)) (x .destination))) r (now (out .exit)) ⌝ }
 {
     let i = x.source;

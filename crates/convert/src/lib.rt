@@ -1,17 +1,95 @@
 // The four converting forms as whole calls: checks in the table's order, the working table, answers.
 ghost use mathlib.Core.Path.{_≡_};
+ghost use Prim.Native.Nat.{_≤_};
+ghost use lib.ListN.{length};
+ghost use Rattle.table.specs.Table.{typeAt};
 ghost use Rattle.runs.specs.Run.{copyingRun, inPlaceRun, plain, Answers};
+ghost use Rattle.runs.specs.Run.Checked.{passed};
+ghost use Rattle.two_sheets.specs.TwoSheets.{first, second};
+ghost use Rattle.convert.specs.Call.{LeavesIn, Passes, sheetsChecked};
+use crate::checks::check_sheets;
+use crate::frames::copy_framed;
+use crate::frames::replace_framed;
 use answer::Answer;
+use table::HALF;
+use table::TABLE;
+use table::store::clear;
 
-pub mod both;
-pub mod copying;
-pub mod in_place;
+mod checks;
+mod frames;
+mod planned;
 
-// Two sheets read into the table: their type numbers; or the first faulty line of the first faulty one.
-pub enum Sheets {
-    Types(usize, usize),
-    Source(u32),
-    Destination(u32),
+// "6 COUNT: n above 65,536"
+const MOST_RECORDS: u64 = 65536;
+
+// What checks 3 to 7 say: a refusal, or the numbers of the two sheets' types in the table.
+enum Checks {
+    Refuse(Answer),
+    Pass(usize, usize),
+}
+
+// A conversion that no check refuses: in place or copying, with a handling, of so many records, from a type of the source sheet to one of the destination sheet.
+struct Conversion {
+    in_place: bool,
+    handling: u32,
+    count: usize,
+    source: usize,
+    destination: usize,
+}
+
+// The types i and k stand in the halves of the table, and no check refuses.
+fn convert_checked(
+    in_place: bool,
+    ss: &[u8],
+    ds: &[u8],
+    count: usize,
+    handling: u32,
+    out: &mut [u8],
+    other: &[u8],
+    table: &[u32],
+    i: usize,
+    k: usize,
+) -> Answer
+    requires { ⌜ Passes «in_place» (now ss) (now ds) count (length (now out)) (length (now other)) (first (now table)) i (second (now table)) k × (length (now table) ≡ 8192) × (handling ≤ 1) ⌝ }
+    ensures { λ r. ⌜ LeavesIn «in_place» handling count (now (out .entry)) (now (other .entry)) (passed (typeAt (first (now (table .entry))) (now (ss .entry)) i) (typeAt (second (now (table .entry))) (now (ds .entry)) k)) r (now (out .exit)) ⌝ }
+{
+    let ws = &table[..HALF];
+    let wd = &table[HALF..];
+    if in_place {
+        return replace_framed(handling, count, i, k, ss, ds, out, other, ws, wd);
+    }
+    copy_framed(handling, count, i, k, ss, ds, out, other, ws, wd)
+}
+
+// Checks 3 to 7, and the conversion: `out` is the buffer that is written. What the table holds afterwards is left open.
+fn convert_within(
+    in_place: bool,
+    ss: &[u8],
+    ds: &[u8],
+    count: u64,
+    handling: u32,
+    out: &mut [u8],
+    other: &[u8],
+    table: &mut [u32],
+) -> Answer
+    requires { ⌜ (handling ≤ 1) × (length (now table) ≡ 8192) ⌝ }
+    ensures { λ r. ⌜ LeavesIn «in_place» handling count (now (out .entry)) (now (other .entry)) (sheetsChecked «in_place» (now (ss .entry)) (now (ds .entry)) count (length (now (out .entry))) (length (now (other .entry)))) r (now (out .exit)) ⌝ }
+{
+    match check_sheets(in_place, ss, ds, count, out.len(), other.len(), table) {
+        Checks::Refuse(a) => a,
+        Checks::Pass(i, k) => convert_checked(
+            in_place,
+            ss,
+            ds,
+            count as usize,
+            handling,
+            out,
+            other,
+            table,
+            i,
+            k,
+        ),
+    }
 }
 
 // Copying: the destination's own bytes are the background.
@@ -29,19 +107,20 @@ pub fn convert_copying(
     if 1 < handling {
         return Answer::Handling;
     }
-    if table.len() < 8192 {
+    if table.len() < TABLE {
         return Answer::Table;
     }
-    let r = copying::convert_within(
+    let r = convert_within(
+        false,
         source_sheet,
         destination_sheet,
         count,
         handling,
-        source,
         destination,
-        &mut table[..8192],
+        source,
+        &mut table[..TABLE],
     );
-    table::store::clear(table, 8192);
+    clear(table, TABLE);
     r
 }
 
@@ -82,19 +161,20 @@ pub fn convert_in_place(
     if 1 < handling {
         return Answer::Handling;
     }
-    if table.len() < 8192 {
+    if table.len() < TABLE {
         return Answer::Table;
     }
-    let r = in_place::convert_within(
+    let r = convert_within(
+        true,
         source_sheet,
         destination_sheet,
         count,
         handling,
         buffer,
         background,
-        &mut table[..8192],
+        &mut table[..TABLE],
     );
-    table::store::clear(table, 8192);
+    clear(table, TABLE);
     r
 }
 

@@ -1,17 +1,13 @@
--- Two sheets in the two halves of the working table, and the plan between their types, as every call on two sheets has them.
+-- Two sheets in the two halves of the working table, as every call on two sheets has them.
 use mathlib.Core.Path.{_≡_}
 use mathlib.Core.List.{List}
-use Prim.Native.Nat.{ℕ, _+_, _-_, _*_, _≤_, _<_}
-use lib.ListN.{length, take, drop, getD}
-use Rattle.datatype.specs.Datatype.{size}
+use Prim.Native.Nat.{ℕ, _-_, _≤_}
+use lib.ListN.{length, take, drop}
 use Rattle.datatype.specs.WellFormed.{WellFormed}
 use Rattle.table.specs.Table.{typeAt}
 use Rattle.table.specs.Records.{RowsInside}
 use Rattle.sheet.specs.Sheet.{sheetOf}
 use Rattle.sheet.specs.Sheet.Sheet.{ofType, faultyAt}
-use Rattle.entry_code.specs.Code.{routeIn}
-use Rattle.records.specs.Plan.{planOf}
-use Rattle.plans.specs.PlanWords.{entriesAt, sourceType, destinationType, wordsPlace, EntryWords, NamesAt}
 use Rattle.two_sheets.specs.declared.Sheets.{Sheets}
 use Rattle.two_sheets.specs.declared.Sheets.the-variants.{Types, Source, Destination}
 
@@ -43,32 +39,9 @@ pub record SheetsRead (ss ds w : List ℕ) (r : Sheets) : Type 0 where
   pub is : ReadAs ss ds w r
   pub words : length w ≡ 8192
 
--- two types, of s and d bytes
-pub record Both (ss ws : List ℕ) (i : ℕ) (ds wd : List ℕ) (k s d : ℕ) : Type 0 where
+-- well-formed types i and k, in the halves ws and wd
+pub record Both (ss ws : List ℕ) (i : ℕ) (ds wd : List ℕ) (k : ℕ) : Type 0 where
   pub source : WellFormed (typeAt ws ss i)
   pub destination : WellFormed (typeAt wd ds k)
   pub sourceRows : RowsInside ws
   pub destinationRows : RowsInside wd
-  pub sourceSize : s ≡ size (typeAt ws ss i)
-  pub destinationSize : d ≡ size (typeAt wd ds k)
-
--- ---- the plan
-
--- two well-formed types, and room for their plan and its words
-pub record Formed (ss ws : List ℕ) (i : ℕ) (ds wd : List ℕ) (k : ℕ) (plan words : List ℕ) : Type 0 where
-  pub source : WellFormed (typeAt ws ss i)
-  pub destination : WellFormed (typeAt wd ds k)
-  pub sourceRows : RowsInside ws
-  pub destinationRows : RowsInside wd
-  pub plan-room : 2 * size (typeAt wd ds k) ≤ length plan
-  pub words-room : wordsPlace (size (typeAt wd ds k)) ≤ length words
-  pub words-most : length words ≤ 65536
-
--- the plan between them, of n entries, and its words
-pub record Made (ss ws : List ℕ) (i : ℕ) (ds wd : List ℕ) (k : ℕ) (plan : List ℕ) (n : ℕ) (words : List ℕ) : Type 0 where
-  pub entries : entriesAt plan n ws ss wd ds ≡ planOf (typeAt ws ss i) (typeAt wd ds k)
-  pub room : 2 * n ≤ length plan
-  pub most : n ≤ 4096
-  pub long : wordsPlace n ≤ length words
-  pub entry : (e : ℕ) → e < n → EntryWords words (wordsPlace e) ws ss wd ds (sourceType plan e) (destinationType plan e)
-  pub names : (e : ℕ) → e < n → 6 ≤ routeIn (getD words (wordsPlace e) 0) → NamesAt words ws ss wd ds

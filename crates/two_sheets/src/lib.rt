@@ -1,8 +1,10 @@
-// What every call on two sheets shares: both sheets read into the table, and the plan from one's type to the other's.
+// Both sheets read, each into its half of the table.
 ghost use mathlib.Core.Path.{_≡_};
-ghost use Rattle.two_sheets.specs.TwoSheets.{Formed, Made};
-
-pub mod read;
+ghost use lib.ListN.{length};
+ghost use Rattle.two_sheets.specs.TwoSheets.{SourceRead, SheetsRead};
+use reading::read_sheet;
+use sheet::SheetRead;
+use table::HALF;
 
 // Two sheets read into the table: their type numbers; or the first faulty line of the first faulty one.
 pub enum Sheets {
@@ -11,22 +13,23 @@ pub enum Sheets {
     Destination(u32),
 }
 
-// The plan from type i of the source sheet to type k of the destination sheet, and its words; how many entries it has.
-pub fn make_plan(
-    ss: &[u8],
-    ds: &[u8],
-    ws: &[u32],
-    i: usize,
-    wd: &[u32],
-    k: usize,
-    plan: &mut [u32],
-    words: &mut [u32],
-) -> usize
-    requires { ⌜ Formed (now ss) (now ws) i (now ds) (now wd) k (now plan) (now words) ⌝ }
-    ensures { λ r. ⌜ Made (now (ss .entry)) (now (ws .entry)) i (now (ds .entry)) (now (wd .entry)) k (now (plan .exit)) r (now (words .exit)) ⌝ }
+// The destination sheet, where the source's types stand in the first half: n of them.
+fn read_destination(ss: &[u8], ds: &[u8], table: &mut [u32], n: u32, m: u32) -> Sheets
+    requires { ⌜ SourceRead (now ss) (now table) n m ⌝ }
+    ensures { λ r. ⌜ SheetsRead (now (ss .entry)) (now (ds .entry)) (now (table .exit)) r ⌝ }
 {
-    let n = planning::plan(ws, ss, i, wd, ds, k, plan);
-    entry_words::put_entries(plan, n, ws, ss, wd, ds, words);
-    name_ids::put_names(n, ws, ss, wd, ds, words);
-    n
+    match read_sheet(ds, &mut table[HALF..]) {
+        SheetRead::Types(k, _) => Sheets::Types((n - 1) as usize, (k - 1) as usize),
+        SheetRead::Faulty(line) => Sheets::Destination(line),
+    }
+}
+
+pub fn read_sheets(ss: &[u8], ds: &[u8], table: &mut [u32]) -> Sheets
+    requires { ⌜ length (now table) ≡ 8192 ⌝ }
+    ensures { λ r. ⌜ SheetsRead (now (ss .entry)) (now (ds .entry)) (now (table .exit)) r ⌝ }
+{
+    match read_sheet(ss, &mut table[..HALF]) {
+        SheetRead::Types(n, m) => read_destination(ss, ds, table, n, m),
+        SheetRead::Faulty(line) => Sheets::Source(line),
+    }
 }

@@ -1,8 +1,8 @@
--- `two_sheets::read::read_destination` meets its contract. Assumes nothing.
+-- `two_sheets::read_destination` meets its contract. Assumes nothing.
 use borrow.Author.Needs.{needs}
 use Rattle.two_sheets.proofs.Halves.{some-types, both-types, destination-bad}
-use Rattle.two_sheets.proofs.read.read_destination.Statement.{statement}
-use Rattle.two_sheets.proofs.read.read_destination.Tie as tie
+use Rattle.two_sheets.proofs.read_destination.Statement.{statement}
+use Rattle.two_sheets.proofs.read_destination.Tie as tie
 
 sub-read-sheet : tie.Need-sub-read-sheet
 sub-read-sheet c = search needs

@@ -1,12 +1,12 @@
--- `two_sheets::read::read_sheets` meets its contract. Assumes nothing.
+-- `two_sheets::read_sheets` meets its contract. Assumes nothing.
 use borrow.Author.Needs.{needs}
 use mathlib.Core.Path.{sym}
 use mathlib.Core.List.{[]}
 use native.Mathlib.Omega.{arith}
 use lib.Seq.{length-take-le}
 use Rattle.two_sheets.proofs.Halves.{source-read, source-bad}
-use Rattle.two_sheets.proofs.read.read_sheets.Statement.{statement}
-use Rattle.two_sheets.proofs.read.read_sheets.Tie as tie
+use Rattle.two_sheets.proofs.read_sheets.Statement.{statement}
+use Rattle.two_sheets.proofs.read_sheets.Tie as tie
 
 slice-relend-prefix-read-sheet : tie.Need-slice-relend-prefix-read-sheet
 slice-relend-prefix-read-sheet c = search needs

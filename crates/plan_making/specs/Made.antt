@@ -1,0 +1,25 @@
+-- The plan between two types in the halves of the working table, as it is made once a call.
+use mathlib.Core.Path.{_≡_}
+use mathlib.Core.List.{List}
+use Prim.Native.Nat.{ℕ, _*_, _≤_, _<_}
+use lib.ListN.{length, getD}
+use Rattle.datatype.specs.Datatype.{size}
+use Rattle.table.specs.Table.{typeAt}
+use Rattle.entry_code.specs.Code.{routeIn}
+use Rattle.records.specs.Plan.{planOf}
+use Rattle.plans.specs.PlanWords.{entriesAt, sourceType, destinationType, wordsPlace, EntryWords, NamesAt}
+
+-- arrays of so many words have room for the plan to type k and for its words
+pub record Room (ds wd : List ℕ) (k plan words : ℕ) : Type 0 where
+  pub entries : 2 * size (typeAt wd ds k) ≤ plan
+  pub words : wordsPlace (size (typeAt wd ds k)) ≤ words
+  pub most : words ≤ 65536
+
+-- the plan, of n entries, and its words
+pub record Made (ss ws : List ℕ) (i : ℕ) (ds wd : List ℕ) (k : ℕ) (plan : List ℕ) (n : ℕ) (words : List ℕ) : Type 0 where
+  pub entries : entriesAt plan n ws ss wd ds ≡ planOf (typeAt ws ss i) (typeAt wd ds k)
+  pub room : 2 * n ≤ length plan
+  pub most : n ≤ 4096
+  pub long : wordsPlace n ≤ length words
+  pub entry : (e : ℕ) → e < n → EntryWords words (wordsPlace e) ws ss wd ds (sourceType plan e) (destinationType plan e)
+  pub names : (e : ℕ) → e < n → 6 ≤ routeIn (getD words (wordsPlace e) 0) → NamesAt words ws ss wd ds
