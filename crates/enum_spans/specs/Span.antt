@@ -5,6 +5,6 @@ use Rattle.plans.specs.Spans.{SpanOf}
 use Rattle.enum_spans.specs.declared.Span.{Span}
 use Rattle.enum_spans.specs.declared.Span.the-variants.{Of, Wide}
 
-abbrev pub SpanFound : List ℕ → ℕ → Span → Type 0
-SpanFound w k (Of low count) = SpanOf w k low count
-SpanFound w k Wide = Unit {0}
+abbrev pub SpanFound : List ℕ → ℕ → ℕ → Span → Type 0
+SpanFound w k room (Of low count) = SpanOf w k room low count
+SpanFound w k room Wide = Unit {0}

@@ -13,14 +13,21 @@ use number::sign::number_of;
 use number::sign::split;
 use row_lookup::row_named;
 use row_lookup::row_numbered;
+use table::CLASS;
+use table::ENUM;
+use table::FIRST;
 use table::Found;
+use table::HIGH;
+use table::NAME;
+use table::NAME_LENGTH;
+use table::ROWS;
+use table::VALUE_HIGH;
+use table::VALUE_LOW;
+use table::VALUE_SIGN;
 use table::codes::flag_of;
 use table::read::layout_at;
 use table::read::row_word;
 use table::read::type_word;
-
-// The class word of an enum.
-pub const ENUM: usize = 2;
 
 // A wider span has no words, nor has one of more bits than a word.
 pub const SPAN_MOST: u64 = 256;
@@ -65,10 +72,10 @@ pub fn value_bits(w: &[u32], j: usize, precision: u32) -> u64
     requires { ⌜ precision ≤ 64 ⌝ }
     ensures { λ r. ⌜ r ≡ bitsOf precision (valueAt (now (w .entry)) j) ⌝ }
 {
-    let low = row_word(w, j, 3);
-    let high = row_word(w, j, 4);
-    let distance = (low + high * 4294967296) as u64;
-    if flag_of(row_word(w, j, 2)) {
+    let low = row_word(w, j, VALUE_LOW);
+    let high = row_word(w, j, VALUE_HIGH);
+    let distance = (low + high * HIGH) as u64;
+    if flag_of(row_word(w, j, VALUE_SIGN)) {
         return minus(ones(precision), distance);
     }
     distance
@@ -78,8 +85,8 @@ pub fn value_bits(w: &[u32], j: usize, precision: u32) -> u64
 pub fn symbol_rows(w: &[u32], k: usize) -> usize
     ensures { λ r. ⌜ (r ≡ symbolRows (now (w .entry)) k) × (r ≤ rowsWord (now (w .entry)) k) ⌝ }
 {
-    if type_word(w, k, 0) == ENUM {
-        type_word(w, k, 10)
+    if type_word(w, k, CLASS) == ENUM {
+        type_word(w, k, ROWS)
     } else {
         0
     }
@@ -91,7 +98,7 @@ fn number_row(ws: &[u32], s: usize, raw: u64) -> Found
     ensures { λ r. ⌜ r ≡ numberRow (now (ws .entry)) s raw ⌝ }
 {
     let l = layout_at(ws, s);
-    let first = type_word(ws, s, 9);
+    let first = type_word(ws, s, FIRST);
     let rows = symbol_rows(ws, s);
     let z = split(number_of(l.signed, l.precision, raw));
     row_numbered(ws, first, rows, z.negative, z.distance)
@@ -102,10 +109,10 @@ fn named_row(ws: &[u32], ts: &[u8], wd: &[u32], td: &[u8], d: usize, j: usize) -
     requires { ⌜ RowsWithin (now wd) d ⌝ }
     ensures { λ r. ⌜ r ≡ rowCode (rowNamed (now (wd .entry)) (now (td .entry)) (nameAt (now (ws .entry)) (now (ts .entry)) j) (firstWord (now (wd .entry)) d) (rowsWord (now (wd .entry)) d)) ⌝ }
 {
-    let first = type_word(wd, d, 9);
-    let rows = type_word(wd, d, 10);
-    let start = row_word(ws, j, 0);
-    let len = row_word(ws, j, 1);
+    let first = type_word(wd, d, FIRST);
+    let rows = type_word(wd, d, ROWS);
+    let start = row_word(ws, j, NAME);
+    let len = row_word(ws, j, NAME_LENGTH);
     match row_named(wd, td, first, rows, ts, start, len) {
         Found::At(row) => row as u32 + 1,
         Found::Missing => 0,
@@ -140,23 +147,23 @@ fn ends_of(w: &[u32], first: usize, n: usize, precision: u32) -> Ends
     Ends { low, end }
 }
 
-// The span of type s.
-pub fn span_of(ws: &[u32], s: usize) -> Span
+// The span of type s, where there is room for so many words.
+pub fn span_of(ws: &[u32], s: usize, room: usize) -> Span
     requires { ⌜ SymbolsFormed (now ws) s ⌝ }
-    ensures { λ r. ⌜ SpanFound (now (ws .entry)) s r ⌝ }
+    ensures { λ r. ⌜ SpanFound (now (ws .entry)) s room r ⌝ }
 {
     let l = layout_at(ws, s);
     if WORD_BITS < l.precision {
         return Span::Wide;
     }
-    let first = type_word(ws, s, 9);
+    let first = type_word(ws, s, FIRST);
     let e = ends_of(ws, first, symbol_rows(ws, s), l.precision);
     let low = e.low;
     let end = e.end;
     if end <= low {
         return Span::Of(0, 0);
     }
-    if SPAN_MOST < end - low {
+    if least(room as u64, SPAN_MOST) < end - low {
         return Span::Wide;
     }
     Span::Of(low as u32, (end - low) as u32)

@@ -1,4 +1,4 @@
--- `enum_spans::span_of` meets its contract: with no row between the ends there are no rows. Assumes nothing.
+-- `enum_spans::span_of` meets its contract: with nothing between the ends there are no rows. Assumes nothing.
 use native.Mathlib.Omega.{arith}
 use borrow.Author.Needs.{needs}
 use Rattle.plans.proofs.Spans.{rows-asked, span-some, span-none}
@@ -15,14 +15,15 @@ returns-2 : tie.Need-returns-2
 returns-2 c =
     let e = c .before in
     let t = e .before .before in
-    span-none _ _ (t .type-word .ensures) (e .before .symbol-rows .ensures) (t .before .before .before .layout-at .ensures .0) (e .ends-of .ensures .0) (c .if2 .taken)
+    span-none _ _ (t .type-word .ensures) (e .before .symbol-rows .ensures) (t .before .before .before .layout-at .ensures .0) (e .ends-of .ensures .0) _ (c .if2 .taken)
 
 returns-4 : tie.Need-returns-4
 returns-4 c =
-    let e = c .before .before in
+    let i = c .before .before in
+    let e = i .before in
     let t = e .before .before in
-    span-some _ _ (t .type-word .ensures) (e .before .symbol-rows .ensures) (t .before .before .before .layout-at .ensures .0) (e .ends-of .ensures .0) (omega (arith, c .before .if2 .left)) (e .ends-of .ensures .2)
-    (c .if3 .left)
+    span-some _ _ (t .type-word .ensures) (e .before .symbol-rows .ensures) (t .before .before .before .layout-at .ensures .0) (e .ends-of .ensures .0) _ (omega (arith, i .if2 .left)) (e .ends-of .ensures .2)
+    (c .before .least .ensures) (c .if3 .left)
 
 pub span-of-spec : {M : Type 1} → statement M
 span-of-spec =
@@ -34,6 +35,7 @@ span-of-spec =
     (λ c κs. search needs)
     ends-of-requires
     returns-2
+    (λ c κs. search needs)
     (λ c. search needs)
     (λ c. search needs)
     (λ c. search needs)
