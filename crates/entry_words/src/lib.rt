@@ -182,13 +182,14 @@ fn put_next(
     )
 }
 
-// The entry that was noted for type d, or any other; entry i is noted in its stead.
-fn note(last: &mut [u32], d: usize, i: usize) -> usize
-    requires { ⌜ i < 4096 ⌝ }
+// The entry that was noted last for two types, which are in one word, or for others that share its place; entry i is noted in its stead.
+fn note(last: &mut [u32], types: usize, i: usize) -> usize
+    requires { ⌜ (types < 4294967296) × (i < 4096) ⌝ }
 {
-    if d < last.len() {
-        let h = last[d] as usize;
-        last[d] = i as u32;
+    let k = (types + 2 * (types / TYPES)) % TYPES;
+    if k < last.len() {
+        let h = last[k] as usize;
+        last[k] = i as u32;
         return h;
     }
     i
@@ -211,8 +212,7 @@ pub fn put_entries(
     let mut free = NAMES + ENTRY_WORDS * n;
     let mut i: usize = 0;
     while i < n {
-        let e = entry(plan, i);
-        let h = note(&mut last, e.destination, i);
+        let h = note(&mut last, at(plan, 2 * i + 1), i);
         free = put_next(words, plan, h, i, free, ws, ts, wd, td);
         i += 1;
     }

@@ -26,14 +26,20 @@ add-free c = omega arith
 loop-holds : tie.Need-loop-holds Inv-loop μ-loop
 loop-holds c = (omega arith, le-refl _, c .before .before .before .before .before .before .pre .2, refl, refl, λ i low. absurd (omega arith))
 
-entry-requires : tie.Need-entry-requires Inv-loop μ-loop
-entry-requires c κs = omega arith
-
 slice-aggregate-note : tie.Need-slice-aggregate-note Inv-loop μ-loop
-slice-aggregate-note c = sym (c .before .before .before .loop .inv .4)
+slice-aggregate-note c = sym (c .before .before .loop .inv .4)
+
+mul-at : tie.Need-mul-at Inv-loop μ-loop
+mul-at c = omega arith
+
+add-at : tie.Need-add-at Inv-loop μ-loop
+add-at c = omega arith
+
+at-requires : tie.Need-at-requires Inv-loop μ-loop
+at-requires c κs = omega arith
 
 note-requires : tie.Need-note-requires Inv-loop μ-loop
-note-requires c κs = omega arith
+note-requires c κs = (c .at .ensures .small, omega arith)
 
 put-next-requires : tie.Need-put-next-requires Inv-loop μ-loop
 put-next-requires c κs =
@@ -84,8 +90,10 @@ put-entries-spec =
     mul-free
     add-free
     loop-holds
-    entry-requires
     slice-aggregate-note
+    mul-at
+    add-at
+    at-requires
     note-requires
     put-next-requires
     add-i
