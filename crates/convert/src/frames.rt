@@ -7,13 +7,13 @@ ghost use Rattle.datatype.specs.Datatype.{size};
 ghost use Rattle.table.specs.Table.{typeAt};
 ghost use Rattle.runs.specs.Run.Checked.{passed};
 ghost use Rattle.plan_making.specs.Made.{Room};
-ghost use Rattle.convert.specs.Call.{Passes, LeavesIn};
-use crate::Conversion;
-use crate::planned::convert_planned;
+ghost use Rattle.conversion.specs.Call.{Passes, LeavesIn};
 use answer::Answer;
+use conversion::Conversion;
+use converting::convert_planned;
+use plan_making::make_plan;
 use table::SIZE;
 use table::read::type_word;
-use plan_making::make_plan;
 
 // A destination record of at most so many bytes goes with the small arrays.
 const SMALL: usize = 128;

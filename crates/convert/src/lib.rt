@@ -6,36 +6,17 @@ ghost use Rattle.table.specs.Table.{typeAt};
 ghost use Rattle.runs.specs.Run.{copyingRun, inPlaceRun, plain, Answers};
 ghost use Rattle.runs.specs.Run.Checked.{passed};
 ghost use Rattle.two_sheets.specs.TwoSheets.{first, second};
-ghost use Rattle.convert.specs.Call.{LeavesIn, Passes, sheetsChecked};
-use crate::checks::check_sheets;
+ghost use Rattle.conversion.specs.Call.{LeavesIn, Passes, sheetsChecked};
 use crate::frames::copy_framed;
 use crate::frames::replace_framed;
 use answer::Answer;
+use checking::check_sheets;
+use conversion::Checks;
 use table::HALF;
 use table::TABLE;
 use table::store::clear;
 
-mod checks;
 mod frames;
-mod planned;
-
-// "6 COUNT: n above 65,536"
-const MOST_RECORDS: u64 = 65536;
-
-// What checks 3 to 7 say: a refusal, or the numbers of the two sheets' types in the table.
-enum Checks {
-    Refuse(Answer),
-    Pass(usize, usize),
-}
-
-// A conversion that no check refuses: in place or copying, with a handling, of so many records, from a type of the source sheet to one of the destination sheet.
-struct Conversion {
-    in_place: bool,
-    handling: u32,
-    count: usize,
-    source: usize,
-    destination: usize,
-}
 
 // The types i and k stand in the halves of the table, and no check refuses.
 fn convert_checked(

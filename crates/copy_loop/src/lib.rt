@@ -18,15 +18,15 @@ pub fn copy_records(
     n: usize,
     ws: &[u32],
     wd: &[u32],
-    to: &[u32],
+    words: &[u32],
 ) -> u64
-    requires { ⌜ Job s d (now plan) n (now ws) (now wd) (now to) × (c ≤ 65536) × (c * s ≤ length (now src)) × (c * d ≤ length (now dst)) ⌝ }
-    ensures { λ r. ⌜ ((j : Job s d (now (plan .entry)) n (now (ws .entry)) (now (wd .entry)) (now (to .entry))) → (now (dst .exit) ≡ copyResult (j .source) (j .destination) c (now (src .entry)) (now (dst .entry))) × (r ≡ exceptions (j .source) (j .destination) c (readings (j .source) (j .destination) (now (src .entry))))) ⌝ }
+    requires { ⌜ Job s d (now plan) n (now ws) (now wd) (now words) × (c ≤ 65536) × (c * s ≤ length (now src)) × (c * d ≤ length (now dst)) ⌝ }
+    ensures { λ r. ⌜ ((j : Job s d (now (plan .entry)) n (now (ws .entry)) (now (wd .entry)) (now (words .entry))) → (now (dst .exit) ≡ copyResult (j .source) (j .destination) c (now (src .entry)) (now (dst .entry))) × (r ≡ exceptions (j .source) (j .destination) c (readings (j .source) (j .destination) (now (src .entry))))) ⌝ }
 {
     let mut total: u64 = 0;
-    let mut i = copy_single(src, dst, c, s, d, plan, n, ws, wd, to);
+    let mut i = copy_single(src, dst, c, s, d, plan, n, ws, wd, words);
     while i < c {
-        total += write_record(&src[i * s..], &mut dst[i * d..], plan, n, ws, wd, to);
+        total += write_record(&src[i * s..], &mut dst[i * d..], plan, n, ws, wd, words);
         i += 1;
     }
     total

@@ -1,4 +1,3 @@
 pub mod Easy
 pub mod Words
 pub mod Lent
-pub mod EachTurns

@@ -14,9 +14,6 @@ ghost use mathlib.Core.Bool.{_&&_};
 ghost use Rattle.easy.specs.Easy.{inside, easy, shiftOf, carryOf, easyWords, wordsOf, withWords};
 ghost use Rattle.easy.specs.Words.{EasyBy, EasyAt};
 ghost use Rattle.entry_code.specs.Code.{packed};
-
-pub mod each;
-
 use bits::ByteAt;
 use bits::Order;
 use bits::bits_of;
@@ -89,7 +86,7 @@ pub fn carry_at(w: &[u32], k: usize) -> u64
     at(w, k + 1) as u64 + at(w, k + 2) as u64 * HIGH
 }
 
-// The same by the words from word k of w on.
+// Converts as convert_by does, by the words from word k of w on.
 pub fn convert_easy(src: &[u8], dst: &mut [u8], b: usize, a: usize, w: &[u32], k: usize)
     requires { ⌜ ((l : Layout) × (m : Layout) × EasyAt l m (now w) k × (b + m .size .0 ≤ length (now dst))) × (a + 8 ≤ length (now src)) × (k + 4 ≤ length (now w)) ⌝ }
     ensures { λ _. ⌜ ((l m : Layout) → EasyAt l m (now (w .entry)) k → b + m .size .0 ≤ length (now (dst .entry)) → now (dst .exit) ≡ stored m b (fitted m (numberAt l a (now (src .entry))) .raw) (now (dst .entry))) ⌝ }

@@ -21,14 +21,14 @@ fn replace_record(
     n: usize,
     ws: &[u32],
     wd: &[u32],
-    to: &[u32],
+    words: &[u32],
 ) -> u64
-    requires { ⌜ Job s d (now plan) n (now ws) (now wd) (now to) × (i * s + s ≤ length (now buf)) × (i * d + d ≤ length (now buf)) × (i * d + d ≤ length (now background)) × (s ≤ length (now staging)) ⌝ }
-    ensures { λ r. ⌜ ((j : Job s d (now (plan .entry)) n (now (ws .entry)) (now (wd .entry)) (now (to .entry))) → (now (buf .exit) ≡ put (i * d) d (recordBy j (take s (drop (i * s) (now (buf .entry)))) (take d (drop (i * d) (now (background .entry))))) (now (buf .entry))) × (r ≡ raisedOf j (take s (drop (i * s) (now (buf .entry)))))) ⌝ }
+    requires { ⌜ Job s d (now plan) n (now ws) (now wd) (now words) × (i * s + s ≤ length (now buf)) × (i * d + d ≤ length (now buf)) × (i * d + d ≤ length (now background)) × (s ≤ length (now staging)) ⌝ }
+    ensures { λ r. ⌜ ((j : Job s d (now (plan .entry)) n (now (ws .entry)) (now (wd .entry)) (now (words .entry))) → (now (buf .exit) ≡ put (i * d) d (recordBy j (take s (drop (i * s) (now (buf .entry)))) (take d (drop (i * d) (now (background .entry))))) (now (buf .entry))) × (r ≡ raisedOf j (take s (drop (i * s) (now (buf .entry)))))) ⌝ }
 {
     copy_bytes(staging, &buf[i * s..], s);
     copy_bytes(&mut buf[i * d..], &background[i * d..], d);
-    write_record(staging, &mut buf[i * d..], plan, n, ws, wd, to)
+    write_record(staging, &mut buf[i * d..], plan, n, ws, wd, words)
 }
 
 // From the first record up: no result record reaches a later source record where d ≤ s.
@@ -42,16 +42,28 @@ fn replace_up(
     n: usize,
     ws: &[u32],
     wd: &[u32],
-    to: &[u32],
+    words: &[u32],
 ) -> u64
-    requires { ⌜ Job s d (now plan) n (now ws) (now wd) (now to) × (c ≤ 65536) × (d ≤ s) × (c * s ≤ length (now buf)) × (c * d ≤ length (now background)) ⌝ }
-    ensures { λ r. ⌜ ((j : Job s d (now (plan .entry)) n (now (ws .entry)) (now (wd .entry)) (now (to .entry))) → (take (c * d) (now (buf .exit)) ≡ take (c * d) (inPlaceResult (j .source) (j .destination) c (now (buf .entry)) (now (background .entry)))) × (drop (c * s) (now (buf .exit)) ≡ drop (c * s) (now (buf .entry))) × (r ≡ exceptions (j .source) (j .destination) c (readings (j .source) (j .destination) (now (buf .entry))))) ⌝ }
+    requires { ⌜ Job s d (now plan) n (now ws) (now wd) (now words) × (c ≤ 65536) × (d ≤ s) × (c * s ≤ length (now buf)) × (c * d ≤ length (now background)) ⌝ }
+    ensures { λ r. ⌜ ((j : Job s d (now (plan .entry)) n (now (ws .entry)) (now (wd .entry)) (now (words .entry))) → (take (c * d) (now (buf .exit)) ≡ take (c * d) (inPlaceResult (j .source) (j .destination) c (now (buf .entry)) (now (background .entry)))) × (drop (c * s) (now (buf .exit)) ≡ drop (c * s) (now (buf .entry))) × (r ≡ exceptions (j .source) (j .destination) c (readings (j .source) (j .destination) (now (buf .entry))))) ⌝ }
 {
     let mut staging = [0u8; 4096];
     let mut total: u64 = 0;
     let mut i: usize = 0;
     while i < c {
-        total += replace_record(buf, background, &mut staging, i, s, d, plan, n, ws, wd, to);
+        total += replace_record(
+            buf,
+            background,
+            &mut staging,
+            i,
+            s,
+            d,
+            plan,
+            n,
+            ws,
+            wd,
+            words,
+        );
         i += 1;
     }
     total
@@ -68,17 +80,29 @@ fn replace_down(
     n: usize,
     ws: &[u32],
     wd: &[u32],
-    to: &[u32],
+    words: &[u32],
 ) -> u64
-    requires { ⌜ Job s d (now plan) n (now ws) (now wd) (now to) × (c ≤ 65536) × (s ≤ d) × (c * d ≤ length (now buf)) × (c * d ≤ length (now background)) ⌝ }
-    ensures { λ r. ⌜ ((j : Job s d (now (plan .entry)) n (now (ws .entry)) (now (wd .entry)) (now (to .entry))) → (now (buf .exit) ≡ inPlaceResult (j .source) (j .destination) c (now (buf .entry)) (now (background .entry))) × (r ≡ exceptions (j .source) (j .destination) c (readings (j .source) (j .destination) (now (buf .entry))))) ⌝ }
+    requires { ⌜ Job s d (now plan) n (now ws) (now wd) (now words) × (c ≤ 65536) × (s ≤ d) × (c * d ≤ length (now buf)) × (c * d ≤ length (now background)) ⌝ }
+    ensures { λ r. ⌜ ((j : Job s d (now (plan .entry)) n (now (ws .entry)) (now (wd .entry)) (now (words .entry))) → (now (buf .exit) ≡ inPlaceResult (j .source) (j .destination) c (now (buf .entry)) (now (background .entry))) × (r ≡ exceptions (j .source) (j .destination) c (readings (j .source) (j .destination) (now (buf .entry))))) ⌝ }
 {
     let mut staging = [0u8; 4096];
     let mut total: u64 = 0;
     let mut i = c;
     while 0 < i {
         i -= 1;
-        total += replace_record(buf, background, &mut staging, i, s, d, plan, n, ws, wd, to);
+        total += replace_record(
+            buf,
+            background,
+            &mut staging,
+            i,
+            s,
+            d,
+            plan,
+            n,
+            ws,
+            wd,
+            words,
+        );
     }
     total
 }
@@ -94,15 +118,15 @@ pub fn replace_records(
     n: usize,
     ws: &[u32],
     wd: &[u32],
-    to: &[u32],
+    words: &[u32],
 ) -> u64
-    requires { ⌜ Job s d (now plan) n (now ws) (now wd) (now to) × (c ≤ 65536) × (c * s ≤ length (now buf)) × (c * d ≤ length (now buf)) × (c * d ≤ length (now background)) ⌝ }
-    ensures { λ r. ⌜ ((j : Job s d (now (plan .entry)) n (now (ws .entry)) (now (wd .entry)) (now (to .entry))) → (now (buf .exit) ≡ inPlaceResult (j .source) (j .destination) c (now (buf .entry)) (now (background .entry))) × (r ≡ exceptions (j .source) (j .destination) c (readings (j .source) (j .destination) (now (buf .entry))))) ⌝ }
+    requires { ⌜ Job s d (now plan) n (now ws) (now wd) (now words) × (c ≤ 65536) × (c * s ≤ length (now buf)) × (c * d ≤ length (now buf)) × (c * d ≤ length (now background)) ⌝ }
+    ensures { λ r. ⌜ ((j : Job s d (now (plan .entry)) n (now (ws .entry)) (now (wd .entry)) (now (words .entry))) → (now (buf .exit) ≡ inPlaceResult (j .source) (j .destination) c (now (buf .entry)) (now (background .entry))) × (r ≡ exceptions (j .source) (j .destination) c (readings (j .source) (j .destination) (now (buf .entry))))) ⌝ }
 {
     if s < d {
-        return replace_down(buf, background, c, s, d, plan, n, ws, wd, to);
+        return replace_down(buf, background, c, s, d, plan, n, ws, wd, words);
     }
-    let total = replace_up(buf, background, c, s, d, plan, n, ws, wd, to);
+    let total = replace_up(buf, background, c, s, d, plan, n, ws, wd, words);
     clear_bytes(&mut buf[c * d..], c * s - c * d);
     total
 }

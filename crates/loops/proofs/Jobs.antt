@@ -17,12 +17,12 @@ use Rattle.loops.specs.Steps.{recordBy, raisedOf}
 use Rattle.easy.proofs.Lent.{tail-lent, lent-room}
 use Rattle.loops.proofs.Fronts.{sound-more, written-front, raised-front, first-front}
 
-module _ {s d : ℕ} {plan : List ℕ} {n : ℕ} {ws wd to : List ℕ} (j : Job s d plan n ws wd to) where
+module _ {s d : ℕ} {plan : List ℕ} {n : ℕ} {ws wd words : List ℕ} (j : Job s d plan n ws wd words) where
   sound : AllSound s d (planOf (j .source) (j .destination))
   sound = rw (j .sourceSize, j .destinationSize) (plan-sound (j .source) (j .destination) (j .sourceFormed) (j .destinationFormed))
 
   -- a plan for records of s and d bytes serves for longer parts that begin with such records
-  pub ready : {t c : ℕ} → s ≤ t → d ≤ c → Ready t c plan n ws wd to
+  pub ready : {t c : ℕ} → s ≤ t → d ≤ c → Ready t c plan n ws wd words
   ready {t} {c} h g =
       record {
         sourceText = j .sourceText;
@@ -31,11 +31,10 @@ module _ {s d : ℕ} {plan : List ℕ} {n : ℕ} {ws wd to : List ℕ} (j : Job 
         sound = rw (j .entries) (sound-more s d t c (planOf (j .source) (j .destination)) h g sound);
         sourceRows = j .sourceRows;
         destinationRows = j .destinationRows;
-        translates = j .translates;
-        numbers = j .numbers;
         most = j .most;
-        words = j .words;
-        easy = j .easy;
+        long = j .long;
+        entry = j .entry;
+        names = j .names;
       }
 
   pub job-written : (r x : List ℕ) → s ≤ length r → d ≤ length x
@@ -54,7 +53,7 @@ module _ {s d : ℕ} {plan : List ℕ} {n : ℕ} {ws wd to : List ℕ} (j : Job 
 
   -- a call of the writer of one record, with the source record at the start of a and the place of the result at the start of b
   pub job-call : (a b e : List ℕ) (r : ℕ) → s ≤ length a → d ≤ length b
-      → ((p : Ready (length a) (length b) plan n ws wd to) → (e ≡ written (entriesOf p) a b) × (r ≡ raisedBy (entriesOf p) a))
+      → ((p : Ready (length a) (length b) plan n ws wd words) → (e ≡ written (entriesOf p) a b) × (r ≡ raisedBy (entriesOf p) a))
       → (e ≡ recordBy j (take s a) (take d b) ++ drop d b) × (r ≡ raisedOf j (take s a))
   unfolding ready
   job-call a b e r h g call = (call (ready h g) .0 ∙ job-written a b h g, call (ready h g) .1 ∙ job-raised a h)
@@ -62,7 +61,7 @@ module _ {s d : ℕ} {plan : List ℕ} {n : ℕ} {ws wd to : List ℕ} (j : Job 
   -- the same with parts that are lent from byte p and from byte q on
   pub job-parts : (src dst e : List ℕ) (p q r : ℕ) → p + s ≤ length src → q + d ≤ length dst
       → (let a : List ℕ = take (length src - p) (drop p src) in let b : List ℕ = take (length dst - q) (drop q dst) in
-      ((t : Ready (length a) (length b) plan n ws wd to) → (e ≡ written (entriesOf t) a b) × (r ≡ raisedBy (entriesOf t) a))
+      ((t : Ready (length a) (length b) plan n ws wd words) → (e ≡ written (entriesOf t) a b) × (r ≡ raisedBy (entriesOf t) a))
       → (e ≡ recordBy j (take s (drop p src)) (take d (drop q dst)) ++ drop d (drop q dst)) × (r ≡ raisedOf j (take s (drop p src))))
   job-parts src dst e p q r h g call =
       simp tail-lent at (job-call (take (length src - p) (drop p src)) (take (length dst - q) (drop q dst)) e r (lent-room p s src h) (lent-room q d dst g) call)
@@ -70,7 +69,7 @@ module _ {s d : ℕ} {plan : List ℕ} {n : ℕ} {ws wd to : List ℕ} (j : Job 
   -- a call of the search in one record, lent from byte p on
   pub job-scan : (src : List ℕ) (p : ℕ) (r : Raising) → p + s ≤ length src
       → (let a : List ℕ = take (length src - p) (drop p src) in
-      ((c : ℕ) (t : Ready (length a) c plan n ws wd to) → r ≡ raisingOf (firstBy (entriesOf t) a))
+      ((c : ℕ) (t : Ready (length a) c plan n ws wd words) → r ≡ raisingOf (firstBy (entriesOf t) a))
       → r ≡ raisingOf (firstBy (planOf (j .source) (j .destination)) (take s (drop p src))))
   unfolding ready
   job-scan src p r h call =
@@ -90,8 +89,8 @@ raised-most S D f (suc k) = omega (arith, raised-most S D f k, one (kindAt S D f
     one zero = omega arith
     one (suc kind) = omega arith
 
-pub raised-small : {s d : ℕ} {plan : List ℕ} {n : ℕ} {ws wd to : List ℕ} (j : Job s d plan n ws wd to) (a : List ℕ) → raisedOf j a ≤ 4096
+pub raised-small : {s d : ℕ} {plan : List ℕ} {n : ℕ} {ws wd words : List ℕ} (j : Job s d plan n ws wd words) (a : List ℕ) → raisedOf j a ≤ 4096
 raised-small j a = le-trans (raised-most (j .source) (j .destination) (reading (j .source) (j .destination) a) (size (j .destination))) (size-most (j .destination) (j .destinationFormed))
 
-pub source-most : {s d : ℕ} {plan : List ℕ} {n : ℕ} {ws wd to : List ℕ} → Job s d plan n ws wd to → s ≤ 4096
+pub source-most : {s d : ℕ} {plan : List ℕ} {n : ℕ} {ws wd words : List ℕ} → Job s d plan n ws wd words → s ≤ 4096
 source-most j = rw (j .sourceSize) (size-most (j .source) (j .sourceFormed))

@@ -22,13 +22,13 @@ use Rattle.loops.proofs.RecordAt.{recordAt, same-reading, record-length
 
 -- ---- one record: g is the staging record before, g1 after, e1 the part of buf with the background's record, e2 with the converted one
 
-module _ {s d : ℕ} {plan : List ℕ} {n : ℕ} {ws wd to : List ℕ} (j : Job s d plan n ws wd to) where
+module _ {s d : ℕ} {plan : List ℕ} {n : ℕ} {ws wd words : List ℕ} (j : Job s d plan n ws wd words) where
   pub one : (buf bg g g1 e1 e2 : List ℕ) (from at r : ℕ) → from + s ≤ length buf → at + d ≤ length buf → at + d ≤ length bg
       → g1 ≡ take s (take (length buf - from) (drop from buf)) ++ drop s g
       → e1 ≡ take d (take (length bg - at) (drop at bg)) ++ drop d (take (length buf - at) (drop at buf))
       → (let b1 : List ℕ = putMid at (length buf - at) buf e1 in
       let part : List ℕ = take (length b1 - at) (drop at b1) in
-      ((t : Ready (length g1) (length part) plan n ws wd to) → (e2 ≡ written (entriesOf t) g1 part) × (r ≡ raisedBy (entriesOf t) g1))
+      ((t : Ready (length g1) (length part) plan n ws wd words) → (e2 ≡ written (entriesOf t) g1 part) × (r ≡ raisedBy (entriesOf t) g1))
       → (putMid at (length b1 - at) b1 e2 ≡ put at d (recordBy j (take s (drop from buf)) (take d (drop at bg))) buf) × (r ≡ raisedOf j (take s (drop from buf))))
   one buf bg g g1 e1 e2 from at r hs hd hb h1 h2 call =
       let a : List ℕ = take s (drop from buf) in

@@ -13,11 +13,11 @@ abbrev pub put : ℕ → ℕ → List ℕ → List ℕ → List ℕ
 put at d r l = take at l ++ (r ++ drop (at + d) l)
 
 -- what the source record a becomes over the background b
-abbrev pub recordBy : {s d : ℕ} {plan : List ℕ} {n : ℕ} {ws wd to : List ℕ} → Job s d plan n ws wd to → List ℕ → List ℕ → List ℕ
+abbrev pub recordBy : {s d : ℕ} {plan : List ℕ} {n : ℕ} {ws wd words : List ℕ} → Job s d plan n ws wd words → List ℕ → List ℕ → List ℕ
 recordBy j a b = convertedRecord (j .source) (j .destination) (reading (j .source) (j .destination) a) b
 
 -- how many exceptions it raises
-abbrev pub raisedOf : {s d : ℕ} {plan : List ℕ} {n : ℕ} {ws wd to : List ℕ} → Job s d plan n ws wd to → List ℕ → ℕ
+abbrev pub raisedOf : {s d : ℕ} {plan : List ℕ} {n : ℕ} {ws wd words : List ℕ} → Job s d plan n ws wd words → List ℕ → ℕ
 raisedOf j a = raisedBelow (j .source) (j .destination) (reading (j .source) (j .destination) a) (size (j .destination))
 
 -- the first i records are copied: up to record i the buffer is the result's, from there on as it was, and their exceptions are counted

@@ -1,18 +1,22 @@
 // Which source leaf the leaf at a byte of a destination type is matched with.
 ghost use mathlib.Core.Path.{_≡_};
+ghost use mathlib.Core.Bool.{true};
 ghost use mathlib.Core.List.{List};
-ghost use Prim.Native.Nat.{ℕ};
+ghost use Prim.Native.Nat.{ℕ, _<_};
+ghost use Rattle.datatype.specs.Datatype.{size};
 ghost use Rattle.datatype.specs.WellFormed.{WellFormed};
-ghost use Rattle.table.specs.Table.{typeAt};
+ghost use Rattle.table.specs.Table.{sizeWord, typeAt};
 ghost use Rattle.paths.specs.Leaf.{MatchFound};
-ghost use Rattle.paths.specs.Steps.{kindAt, Leads, LeadsIn};
+ghost use Rattle.paths.specs.Steps.{kindAt, covers, Leads, LeadsIn};
 use paths::Pair;
 use paths::Walk;
 use paths::numbers::minus;
 use paths::numbers::quotient;
 use paths::numbers::remainder;
 use paths::types::count_at;
+use paths::types::gap_end;
 use paths::types::kind_at;
+use paths::types::row_end;
 use paths::types::row_of_name;
 use paths::types::row_over;
 use table::ARRAY;
@@ -30,7 +34,7 @@ use table::read::type_word;
 
 // From the destination's row j, at byte b of its compound, into the source compound s.
 fn match_named(ws: &[u32], ts: &[u8], s: usize, wd: &[u32], td: &[u8], j: usize, b: usize) -> Walk
-    requires { ⌜ kindAt (now ws) s ≡ 3 ⌝ }
+    requires { ⌜ (kindAt (now ws) s ≡ 3) × (covers (now wd) j b ≡ true) ⌝ }
     ensures { λ r. ⌜ LeadsIn (now (ws .entry)) (now (ts .entry)) s (now (wd .entry)) (now (td .entry)) j b r ⌝ }
 {
     match row_of_name(ws, ts, s, wd, td, j) {
@@ -41,7 +45,7 @@ fn match_named(ws: &[u32], ts: &[u8], s: usize, wd: &[u32], td: &[u8], j: usize,
             let offset = row_word(wd, j, MEMBER_OFFSET);
             Walk::On(from, k, l, minus(b, offset))
         }
-        Found::Missing => Walk::Off,
+        Found::Missing => Walk::Off(row_end(wd, j)),
     }
 }
 
@@ -55,58 +59,59 @@ fn match_compound(
     d: usize,
     b: usize,
 ) -> Walk
-    requires { ⌜ (kindAt (now ws) s ≡ 3) × (kindAt (now wd) d ≡ 3) ⌝ }
+    requires { ⌜ (kindAt (now ws) s ≡ 3) × (kindAt (now wd) d ≡ 3) × (b < sizeWord (now wd) d) ⌝ }
     ensures { λ r. ⌜ Leads (now (ws .entry)) (now (ts .entry)) s (now (wd .entry)) (now (td .entry)) d b r ⌝ }
 {
     let first = type_word(wd, d, FIRST);
     let n = type_word(wd, d, ROWS);
     match row_over(wd, first, n, b) {
         Found::At(j) => match_named(ws, ts, s, wd, td, j, b),
-        Found::Missing => Walk::Off,
+        Found::Missing => {
+            let z = type_word(wd, d, SIZE);
+            Walk::Off(gap_end(wd, first, n, b, z))
+        }
     }
 }
 
 // Between the arrays s and d.
 fn match_array(ws: &[u32], s: usize, wd: &[u32], d: usize, b: usize) -> Walk
-    requires { ⌜ (kindAt (now ws) s ≡ 4) × (kindAt (now wd) d ≡ 4) ⌝ }
+    requires { ⌜ (kindAt (now ws) s ≡ 4) × (kindAt (now wd) d ≡ 4) × (b < sizeWord (now wd) d) ⌝ }
     ensures { λ r. ⌜ ((ts td : List ℕ) → Leads (now (ws .entry)) ts s (now (wd .entry)) td d b r) ⌝ }
 {
-    if count_at(ws, s) != count_at(wd, d) {
-        return Walk::Off;
-    }
     let z = type_word(wd, d, SIZE);
+    if count_at(ws, s) != count_at(wd, d) {
+        return Walk::Off(z);
+    }
     let l = type_word(wd, d, BASE);
     let y = type_word(wd, l, SIZE);
     let k = type_word(ws, s, BASE);
     let x = type_word(ws, k, SIZE);
-    if b < z {
-        Walk::On(quotient(b, y) * x, k, l, remainder(b, y))
-    } else {
-        Walk::Off
-    }
+    Walk::On(quotient(b, y) * x, k, l, remainder(b, y))
 }
 
 fn match_step(ws: &[u32], ts: &[u8], s: usize, wd: &[u32], td: &[u8], d: usize, b: usize) -> Walk
+    requires { ⌜ b < sizeWord (now wd) d ⌝ }
     ensures { λ r. ⌜ Leads (now (ws .entry)) (now (ts .entry)) s (now (wd .entry)) (now (td .entry)) d b r ⌝ }
 {
     let from = kind_at(ws, s);
     let to = kind_at(wd, d);
+    let z = type_word(wd, d, SIZE);
     if to == COMPOUND {
         if from == COMPOUND {
             match_compound(ws, ts, s, wd, td, d, b)
         } else {
-            Walk::Off
+            Walk::Off(z)
         }
     } else if to == ARRAY {
         if from == ARRAY {
             match_array(ws, s, wd, d, b)
         } else {
-            Walk::Off
+            Walk::Off(z)
         }
     } else if b != 0 {
-        Walk::Off
+        Walk::Off(z)
     } else if COMPOUND <= from {
-        Walk::Off
+        Walk::Off(z)
     } else {
         Walk::Same
     }
@@ -114,7 +119,7 @@ fn match_step(ws: &[u32], ts: &[u8], s: usize, wd: &[u32], td: &[u8], d: usize, 
 
 // The match of the leaf that starts at byte b of the destination type k, in the source type i.
 pub fn match_at(ws: &[u32], ts: &[u8], i: usize, wd: &[u32], td: &[u8], k: usize, b: usize) -> Pair
-    requires { ⌜ WellFormed (typeAt (now ws) (now ts) i) × WellFormed (typeAt (now wd) (now td) k) ⌝ }
+    requires { ⌜ WellFormed (typeAt (now ws) (now ts) i) × WellFormed (typeAt (now wd) (now td) k) × (b < size (typeAt (now wd) (now td) k)) ⌝ }
     ensures { λ r. ⌜ MatchFound (now (ws .entry)) (now (ts .entry)) i (now (wd .entry)) (now (td .entry)) k b r ⌝ }
 {
     let mut s = i;
@@ -133,11 +138,11 @@ pub fn match_at(ws: &[u32], ts: &[u8], i: usize, wd: &[u32], td: &[u8], k: usize
             Walk::Same => {
                 return Pair::Matched(from, s, d);
             }
-            Walk::Off => {
-                return Pair::Unmatched;
+            Walk::Off(end) => {
+                return Pair::Unmatched(end - at);
             }
         }
         left -= 1;
     }
-    Pair::Unmatched
+    Pair::Unmatched(1)
 }

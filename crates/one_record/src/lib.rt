@@ -1,23 +1,96 @@
 // One record, by the plan's entries.
 ghost use mathlib.Core.Path.{_≡_};
 ghost use Prim.Native.Nat.{ℕ, _+_, _*_, _≤_, _<_};
-ghost use lib.ListN.{length};
+ghost use lib.ListN.{length, getD};
 ghost use Rattle.records.specs.Record.{raises};
 ghost use Rattle.records.specs.Plan.{written, raisedBy, firstBy};
 ghost use Rattle.number.specs.Place.{stored};
 ghost use Rattle.table.specs.Table.{layoutAt};
-ghost use Rattle.plans.specs.PlanWords.{Pair, pairBecomes, Ready, entriesOf};
+ghost use Rattle.plans.specs.PlanWords.{wordsPlace, Pair, pairBecomes, Ready, entriesOf};
+ghost use Rattle.entry_code.specs.Code.{routeIn};
 ghost use Rattle.plans.specs.PlanEntries.{EntryReady, raisingOf};
 use easy::at;
 use easy::convert_easy;
+use entry_code::GENERAL;
+use entry_code::SPAN;
+use entry_code::SPAN_LE;
+use entry_code::route_in;
 use one_leaf::convert_enum;
-use one_leaf::convert_leaf;
-use one_leaf::leaf_kind;
+use one_leaf::convert_enum_fast;
+use one_leaf::convert_number;
+use one_leaf::enum_kind;
+use one_leaf::number_kind;
 use plan_words::entry;
+use plans::ENTRY_WORDS;
+use plans::NAMES;
 use plans::PlanEntry;
 use plans::Raising;
 
-// Converts the leaf of entry i, which is e: an easy one and a small enum by its words where eight bytes are there to be read. The kind of exception is returned.
+// Where the words of entry i begin.
+fn words_of(i: usize) -> usize
+    requires { ⌜ i < 4096 ⌝ }
+    ensures { λ r. ⌜ r ≡ wordsPlace i ⌝ }
+{
+    NAMES + ENTRY_WORDS * i
+}
+
+// Converts the leaf of entry i, which is e and no enum: by its words where it is easy and eight bytes can be read. The kind of exception is returned.
+fn write_number(
+    src: &[u8],
+    dst: &mut [u8],
+    e: PlanEntry,
+    i: usize,
+    ws: &[u32],
+    wd: &[u32],
+    words: &[u32],
+) -> u32
+    requires { ⌜ EntryReady (length (now src)) (length (now dst)) e i (now ws) (now wd) (now words) × (i < 4096) × (routeIn (getD (now words) (wordsPlace i) 0) < 3) ⌝ }
+    ensures { λ r. ⌜ ((p : Pair (e .source) (e .destination) (now (ws .entry)) (now (wd .entry)) (now (words .entry)) (wordsPlace i)) → (r ≡ pairBecomes p (e .from) (now (src .entry)) .kind) × (now (dst .exit) ≡ stored (layoutAt (now (wd .entry)) (e .destination)) (e .to) (pairBecomes p (e .from) (now (src .entry)) .raw) (now (dst .entry)))) ⌝ }
+{
+    let k = words_of(i);
+    if route_in(at(words, k)) != GENERAL {
+        if 8 <= src.len() - e.from {
+            convert_easy(src, dst, e.to, e.from, words, k);
+            return 0;
+        }
+    }
+    convert_number(src, dst, e.to, e.from, e.source, e.destination, ws, wd)
+}
+
+// The same of an enum: by its packed word where that says all and eight bytes can be read.
+fn write_enum(
+    src: &[u8],
+    dst: &mut [u8],
+    e: PlanEntry,
+    i: usize,
+    ws: &[u32],
+    wd: &[u32],
+    words: &[u32],
+) -> u32
+    requires { ⌜ EntryReady (length (now src)) (length (now dst)) e i (now ws) (now wd) (now words) × (i < 4096) × (3 ≤ routeIn (getD (now words) (wordsPlace i) 0)) ⌝ }
+    ensures { λ r. ⌜ ((p : Pair (e .source) (e .destination) (now (ws .entry)) (now (wd .entry)) (now (words .entry)) (wordsPlace i)) → (r ≡ pairBecomes p (e .from) (now (src .entry)) .kind) × (now (dst .exit) ≡ stored (layoutAt (now (wd .entry)) (e .destination)) (e .to) (pairBecomes p (e .from) (now (src .entry)) .raw) (now (dst .entry)))) ⌝ }
+{
+    let k = words_of(i);
+    if route_in(at(words, k)) < SPAN {
+        if 8 <= src.len() - e.from {
+            return convert_enum_fast(src, dst, e.to, e.from, wd, words, k);
+        }
+    }
+    convert_enum(
+        src,
+        dst,
+        e.to,
+        e.from,
+        e.source,
+        e.destination,
+        ws,
+        wd,
+        words,
+        k,
+    )
+}
+
+// Converts the leaf of entry i, which is e. The kind of exception is returned.
 fn write_entry(
     src: &[u8],
     dst: &mut [u8],
@@ -25,48 +98,31 @@ fn write_entry(
     i: usize,
     ws: &[u32],
     wd: &[u32],
-    to: &[u32],
+    words: &[u32],
 ) -> u32
-    requires { ⌜ EntryReady (length (now src)) (length (now dst)) e i (now ws) (now wd) (now to) ⌝ }
-    ensures { λ r. ⌜ ((p : Pair (e .source) (e .destination) (now (ws .entry)) (now (wd .entry)) (now (to .entry))) → (r ≡ pairBecomes p (e .from) (now (src .entry)) .kind) × (now (dst .exit) ≡ stored (layoutAt (now (wd .entry)) (e .destination)) (e .to) (pairBecomes p (e .from) (now (src .entry)) .raw) (now (dst .entry)))) ⌝ }
+    requires { ⌜ EntryReady (length (now src)) (length (now dst)) e i (now ws) (now wd) (now words) ⌝ }
+    ensures { λ r. ⌜ ((p : Pair (e .source) (e .destination) (now (ws .entry)) (now (wd .entry)) (now (words .entry)) (wordsPlace i)) → (r ≡ pairBecomes p (e .from) (now (src .entry)) .kind) × (now (dst .exit) ≡ stored (layoutAt (now (wd .entry)) (e .destination)) (e .to) (pairBecomes p (e .from) (now (src .entry)) .raw) (now (dst .entry)))) ⌝ }
 {
-    let k = 32768 + 8 * i;
-    let first = at(to, k);
-    if first != 0 {
-        if 8 <= src.len() - e.from {
-            if first < 3 {
-                convert_easy(src, dst, e.to, e.from, to, k);
-                return 0;
-            }
-            return convert_enum(
-                src,
-                dst,
-                e.to,
-                e.from,
-                e.source,
-                e.destination,
-                ws,
-                wd,
-                to,
-                k,
-            );
-        }
+    if route_in(at(words, words_of(i))) < SPAN_LE {
+        return write_number(src, dst, e, i, ws, wd, words);
     }
-    convert_leaf(src, dst, e.to, e.from, e.source, e.destination, ws, wd, to)
+    write_enum(src, dst, e, i, ws, wd, words)
 }
 
 // The kind of exception that the leaf of entry i raises: an easy one raises none.
-fn entry_kind(src: &[u8], e: PlanEntry, i: usize, ws: &[u32], wd: &[u32], to: &[u32]) -> u32
-    requires { ⌜ ((d : ℕ) × EntryReady (length (now src)) d e i (now ws) (now wd) (now to)) ⌝ }
-    ensures { λ r. ⌜ ((p : Pair (e .source) (e .destination) (now (ws .entry)) (now (wd .entry)) (now (to .entry))) → r ≡ pairBecomes p (e .from) (now (src .entry)) .kind) ⌝ }
+fn entry_kind(src: &[u8], e: PlanEntry, i: usize, ws: &[u32], wd: &[u32], words: &[u32]) -> u32
+    requires { ⌜ ((d : ℕ) × EntryReady (length (now src)) d e i (now ws) (now wd) (now words)) ⌝ }
+    ensures { λ r. ⌜ ((p : Pair (e .source) (e .destination) (now (ws .entry)) (now (wd .entry)) (now (words .entry)) (wordsPlace i)) → r ≡ pairBecomes p (e .from) (now (src .entry)) .kind) ⌝ }
 {
-    let first = at(to, 32768 + 8 * i);
-    if first != 0 {
-        if first < 3 {
-            return 0;
-        }
+    let k = words_of(i);
+    let route = route_in(at(words, k));
+    if SPAN_LE <= route {
+        return enum_kind(src, e.from, e.source, e.destination, ws, wd, words, k);
     }
-    leaf_kind(src, e.from, e.source, e.destination, ws, wd, to)
+    if route != GENERAL {
+        return 0;
+    }
+    number_kind(src, e.from, e.source, e.destination, ws, wd)
 }
 
 // 1 where an exception was raised.
@@ -84,16 +140,16 @@ pub fn write_record(
     n: usize,
     ws: &[u32],
     wd: &[u32],
-    to: &[u32],
+    words: &[u32],
 ) -> u64
-    requires { ⌜ Ready (length (now src)) (length (now dst)) (now plan) n (now ws) (now wd) (now to) ⌝ }
-    ensures { λ r. ⌜ ((p : Ready (length (now (src .entry))) (length (now (dst .entry))) (now (plan .entry)) n (now (ws .entry)) (now (wd .entry)) (now (to .entry))) → (now (dst .exit) ≡ written (entriesOf p) (now (src .entry)) (now (dst .entry))) × (r ≡ raisedBy (entriesOf p) (now (src .entry)))) ⌝ }
+    requires { ⌜ Ready (length (now src)) (length (now dst)) (now plan) n (now ws) (now wd) (now words) ⌝ }
+    ensures { λ r. ⌜ ((p : Ready (length (now (src .entry))) (length (now (dst .entry))) (now (plan .entry)) n (now (ws .entry)) (now (wd .entry)) (now (words .entry))) → (now (dst .exit) ≡ written (entriesOf p) (now (src .entry)) (now (dst .entry))) × (r ≡ raisedBy (entriesOf p) (now (src .entry)))) ⌝ }
 {
     let mut raised: u64 = 0;
     let mut i: usize = 0;
     while i < n {
         let e = entry(plan, i);
-        let kind = write_entry(src, dst, e, i, ws, wd, to);
+        let kind = write_entry(src, dst, e, i, ws, wd, words);
         raised += counted(kind);
         i += 1;
     }
@@ -107,16 +163,16 @@ pub fn first_raising(
     n: usize,
     ws: &[u32],
     wd: &[u32],
-    to: &[u32],
+    words: &[u32],
 ) -> Raising
-    requires { ⌜ ((d : ℕ) × Ready (length (now src)) d (now plan) n (now ws) (now wd) (now to)) ⌝ }
-    ensures { λ r. ⌜ ((d : ℕ) (p : Ready (length (now (src .entry))) d (now (plan .entry)) n (now (ws .entry)) (now (wd .entry)) (now (to .entry))) → r ≡ raisingOf (firstBy (entriesOf p) (now (src .entry)))) ⌝ }
+    requires { ⌜ ((d : ℕ) × Ready (length (now src)) d (now plan) n (now ws) (now wd) (now words)) ⌝ }
+    ensures { λ r. ⌜ ((d : ℕ) (p : Ready (length (now (src .entry))) d (now (plan .entry)) n (now (ws .entry)) (now (wd .entry)) (now (words .entry))) → r ≡ raisingOf (firstBy (entriesOf p) (now (src .entry)))) ⌝ }
 {
     let mut i: usize = 0;
     while i < n {
         let e = entry(plan, i);
         let b = e.to as u32;
-        let kind = entry_kind(src, e, i, ws, wd, to);
+        let kind = entry_kind(src, e, i, ws, wd, words);
         if kind != 0 {
             return Raising::At(b, kind);
         }

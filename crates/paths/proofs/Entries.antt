@@ -1,37 +1,40 @@
--- A plan's entries, one more at a time. Assumes nothing.
+-- A plan's entries, one more at a time, and the steps from one to the next. Assumes nothing.
 use mathlib.Core.Path.{_≡_, refl, sym, ap, _∙_}
+use mathlib.Core.Bool.{Bool, true, false, cond}
 use mathlib.Core.List.{List, [], _∷_, _++_, append-assoc, append-nil}
-use Prim.Native.Nat.{ℕ, zero, suc, _+_, _-_, _*_, _≤_, _<_}
+use Prim.Native.Nat.{ℕ, zero, suc, _+_, _-_, _*_, _/_, _%_, _≤_, _<_}
+use native.Mathlib.Nat.{zero-add, add-zero, mul-add-div-right, mul-add-mod-self-right, div-eq-of-lt, mod-eq-of-lt}
 use native.Mathlib.Numerals.{add-one}
 use native.Mathlib.Omega.{arith}
 use borrow.Author.Needs.{needs}
-use mir.Syntax.{w32}
-use mir.Val.{Fits}
+use lib.Dec.{eqb}
 use lib.ListN.{getD, length, set, length-set}
 use lib.Seq.{getD-set-same, getD-set-other}
-use Rattle.datatype.specs.Datatype.{Datatype, size}
+use Rattle.datatype.specs.Datatype.{Leaf, leafSize, Datatype, size}
+use Rattle.datatype.specs.Datatype.Leaf.{atomic, enumeration}
+use Rattle.datatype.specs.Datatype.Datatype.{leaf}
 use Rattle.datatype.specs.Matches.{Match, onMatch, matchAt}
 use Rattle.datatype.specs.Matches.Match.{unmatched, matched}
 use Rattle.datatype.specs.WellFormed.{WellFormed}
-use Rattle.datatype.proofs.Matches.{size-most}
+use Rattle.datatype.proofs.Matches.{size-some, size-most, in-range, match-leaf, match-formed, leaves-apart}
 use Rattle.records.specs.Plan.{Entry, planFrom, planOf}
-use Rattle.table.specs.Table.{sizeWord, typeAt}
+use Rattle.table.specs.Table.{classWord, sizeWord, firstWord, rowsWord, layoutAt, symbolsAt, typeAt}
 use Rattle.table.specs.Words.{Reads}
 use Rattle.paths.specs.declared.Pair.{Pair}
 use Rattle.paths.specs.declared.Pair.the-variants.{Matched, Unmatched}
-use Rattle.paths.specs.Leaf.{leafOfType, Small, MatchFound}
-use Rattle.plans.specs.PlanWords.{entryAt, entriesFrom, entriesAt}
-use Rattle.paths.specs.Plan.{Planned, entryPut, entryOf, Added}
+use Rattle.paths.specs.Leaf.{leafOfType, Small, NoneMatched, MatchFound}
+use Rattle.plans.specs.PlanWords.{toByte, fromByte, sourceType, destinationType, entryAt, entriesFrom, entriesAt}
+use Rattle.paths.specs.Plan.{Planned, entryPut, entryOf, stepOf, Added}
 use Rattle.paths.proofs.Shapes.{size-decode}
 
 -- ---- entries
 
 module _ (ws ts wd td : List ℕ) where
-  entry-kept : (p q : List ℕ) (e : ℕ) → ((k : ℕ) → k < 4 * e + 4 → getD p k 0 ≡ getD q k 0) → entryAt p ws ts wd td e ≡ entryAt q ws ts wd td e
-  entry-kept p q e h =
-      rw (h (4 * e + 0) (omega arith), h (4 * e + 1) (omega arith), h (4 * e + 2) (omega arith), h (4 * e + 3) (omega arith)) refl
+  entry-kept : (p q : List ℕ) (e : ℕ) → ((k : ℕ) → k < 2 * e + 2 → getD p k 0 ≡ getD q k 0) → entryAt p ws ts wd td e ≡ entryAt q ws ts wd td e
+  unfolding toByte fromByte sourceType destinationType
+  entry-kept p q e h = rw (h (2 * e) (omega arith), h (2 * e + 1) (omega arith)) refl
 
-  entries-kept : (p q : List ℕ) (e n : ℕ) → ((k : ℕ) → k < 4 * (e + n) → getD p k 0 ≡ getD q k 0) → entriesFrom p ws ts wd td e n ≡ entriesFrom q ws ts wd td e n
+  entries-kept : (p q : List ℕ) (e n : ℕ) → ((k : ℕ) → k < 2 * (e + n) → getD p k 0 ≡ getD q k 0) → entriesFrom p ws ts wd td e n ≡ entriesFrom q ws ts wd td e n
   unfolding entriesFrom
   entries-kept p q e zero h = refl
   entries-kept p q e (suc n) h =
@@ -44,93 +47,79 @@ module _ (ws ts wd td : List ℕ) where
 
 -- ---- one entry more
 
+-- two numbers in one word
+module _ (a b m : ℕ) (h : b < m) where
+  first-of : (a * m + b) / m ≡ a
+  first-of = mul-add-div-right {m = m} (omega arith) a b ∙ rw (div-eq-of-lt h, add-zero) refl
+
+  second-of : (a * m + b) % m ≡ b
+  second-of = mul-add-mod-self-right a m b ∙ mod-eq-of-lt h
+
 module _ (p : List ℕ) (n to from s d : ℕ) where
-  abbrev one : List ℕ
-  one = set p (4 * n) to
-
-  abbrev two : List ℕ
-  two = set one (4 * n + 1) from
-
-  abbrev three : List ℕ
-  three = set two (4 * n + 2) s
-
   put-length : length (entryPut p n to from s d) ≡ length p
   unfolding entryPut
   put-length = simp length-set
 
-  -- a word that the later stores leave
-  past-one : (k : ℕ) → (k ≡ 4 * n + 1 → ⊥) → getD two k 0 ≡ getD one k 0
-  past-one k h = getD-set-other one (4 * n + 1) k from 0 h
-
-  past-two : (k : ℕ) → (k ≡ 4 * n + 2 → ⊥) → getD three k 0 ≡ getD two k 0
-  past-two k h = getD-set-other two (4 * n + 2) k s 0 h
-
-  past-three : (k : ℕ) → (k ≡ 4 * n + 3 → ⊥) → getD (entryPut p n to from s d) k 0 ≡ getD three k 0
+  put-before : (k : ℕ) → k < 2 * n → getD (entryPut p n to from s d) k 0 ≡ getD p k 0
   unfolding entryPut
-  past-three k h = getD-set-other three (4 * n + 3) k d 0 h
-
-  put-before : (k : ℕ) → k < 4 * n → getD (entryPut p n to from s d) k 0 ≡ getD p k 0
   put-before k h =
-      past-three k (λ e. omega arith) ∙ past-two k (λ e. omega arith) ∙ past-one k (λ e. omega arith) ∙ getD-set-other p (4 * n) k to 0 (λ e. omega arith)
+      getD-set-other (set p (2 * n) (to * 4096 + from)) (2 * n + 1) k (s * 64 + d) 0 (λ e. omega arith)
+      ∙ getD-set-other p (2 * n) k (to * 4096 + from) 0 (λ e. omega arith)
 
-  module _ (room : 4 * n + 4 ≤ length p) where
-    put-to : getD (entryPut p n to from s d) (4 * n + 0) 0 ≡ to
-    put-to =
-        let e : 4 * n + 0 ≡ 4 * n = omega arith in
-        ap (λ (k : ℕ). getD (entryPut p n to from s d) k 0) e
-        ∙ past-three (4 * n) (λ e. omega arith) ∙ past-two (4 * n) (λ e. omega arith) ∙ past-one (4 * n) (λ e. omega arith)
-        ∙ getD-set-same p (4 * n) to 0 (omega arith)
-
-    put-from : getD (entryPut p n to from s d) (4 * n + 1) 0 ≡ from
-    put-from =
-        past-three (4 * n + 1) (λ e. omega arith) ∙ past-two (4 * n + 1) (λ e. omega arith)
-        ∙ getD-set-same one (4 * n + 1) from 0 (simp length-set (omega arith))
-
-    put-source : getD (entryPut p n to from s d) (4 * n + 2) 0 ≡ s
-    put-source = past-three (4 * n + 2) (λ e. omega arith) ∙ getD-set-same two (4 * n + 2) s 0 (simp length-set (omega arith))
-
-    put-destination : getD (entryPut p n to from s d) (4 * n + 3) 0 ≡ d
+  module _ (room : 2 * n + 2 ≤ length p) where
+    put-places : getD (entryPut p n to from s d) (2 * n) 0 ≡ to * 4096 + from
     unfolding entryPut
-    put-destination = getD-set-same three (4 * n + 3) d 0 (simp length-set (omega arith))
+    put-places =
+        getD-set-other (set p (2 * n) (to * 4096 + from)) (2 * n + 1) (2 * n) (s * 64 + d) 0 (λ e. omega arith)
+        ∙ getD-set-same p (2 * n) (to * 4096 + from) 0 (omega arith)
 
-    put-entry : (ws ts wd td : List ℕ)
+    put-types : getD (entryPut p n to from s d) (2 * n + 1) 0 ≡ s * 64 + d
+    unfolding entryPut
+    put-types = getD-set-same (set p (2 * n) (to * 4096 + from)) (2 * n + 1) (s * 64 + d) 0 (simp length-set (omega arith))
+
+    put-entry : from < 4096 → d < 64 → (ws ts wd td : List ℕ)
         → entryAt (entryPut p n to from s d) ws ts wd td n ≡ record { to = to; from = from; source = leafOfType ws ts s; destination = leafOfType wd td d }
-    put-entry ws ts wd td = rw (put-to, put-from, put-source, put-destination) refl
+    unfolding toByte fromByte sourceType destinationType
+    put-entry hf hd ws ts wd td =
+        rw (put-places, put-types, first-of to from 4096 hf, second-of to from 4096 hf, first-of s d 64 hd, second-of s d 64 hd) refl
+
+-- the numbers of a match fit the plan's words
+module _ {m : Pair} {a s d : ℕ} (small : Small m) (e : m ≡ Matched a s d) where
+  parts : (a < 4096) × (s < 64) × (d < 64)
+  parts = rw e at small
+
+  pub from-low : a < 4096
+  from-low = parts .0
+
+  pub source-low : s < 64
+  source-low = parts .1
+
+  pub destination-low : d < 64
+  destination-low = parts .2
 
 module _ (p : List ℕ) (n b : ℕ) {m : Pair} where
-  pub added-none : m ≡ Unmatched → Added p n b m p n
+  pub added-none : {k : ℕ} → m ≡ Unmatched k → Added p n b m p n
   added-none e = record { entries = λ ws ts wd td. rw e (sym (append-nil (entriesAt p n ws ts wd td))); room = refl; most = omega arith }
 
-  pub added-one : {a s d : ℕ} (q : List ℕ) → m ≡ Matched a s d → 4 * n + 4 ≤ length p → q ≡ entryPut p n b a s d → Added p n b m q (n + 1)
-  added-one {a} {s} {d} q e h put =
+  pub added-one : {a s d : ℕ} (q : List ℕ) → m ≡ Matched a s d → Small m → 2 * n + 2 ≤ length p → q ≡ entryPut p n b a s d → Added p n b m q (n + 1)
+  added-one {a} {s} {d} q e small h put =
       rw (put, e)
       record {
         entries = λ ws ts wd td.
             let last : 0 + n ≡ n = omega arith in
             rw (add-one)
             (entries-last ws ts wd td (entryPut p n b a s d) 0 n last
-            ∙ rw (entries-kept ws ts wd td (entryPut p n b a s d) p 0 n (λ k l. put-before p n b a s d k (omega arith)), put-entry p n b a s d h ws ts wd td) refl);
+            ∙ rw (
+              entries-kept ws ts wd td (entryPut p n b a s d) p 0 n (λ k l. put-before p n b a s d k (omega arith)),
+              put-entry p n b a s d h (from-low small e) (destination-low small e) ws ts wd td,
+            ) refl);
         room = put-length p n b a s d;
         most = omega arith;
       }
 
--- the numbers of a match fit the plan's words
-module _ {m : Pair} {a s d : ℕ} (small : Small m) (e : m ≡ Matched a s d) where
-  parts : (a ≤ 4096) × (s < 64) × (d < 64)
-  parts = rw e at small
+pub ruleset add-laws = (needs, added-none, added-one, from-low, source-low, destination-low)
 
-  pub from-fits : Fits w32 a
-  from-fits = record { fits = omega (arith, parts .0) }
-
-  pub source-fits : Fits w32 s
-  source-fits = record { fits = omega (arith, parts .1) }
-
-  pub destination-fits : Fits w32 d
-  destination-fits = record { fits = omega (arith, parts .2) }
-
-pub ruleset add-laws = (needs, added-none, added-one, from-fits, source-fits, destination-fits)
-
--- ---- the plan
+-- ---- from one byte with a match to the next that may have one
 
 module _ (S D : Datatype) where
   plan-next : (b k : ℕ) → planFrom S D b (suc k) ≡ entryOf b (matchAt S D b) ++ planFrom S D (suc b) k
@@ -146,49 +135,134 @@ module _ (S D : Datatype) where
   unfolding planFrom
   plan-done b z h = let e : z - b ≡ 0 = omega arith in rw e refl
 
-  plan-step : (b z : ℕ) → b < z → planFrom S D b (z - b) ≡ entryOf b (matchAt S D b) ++ planFrom S D (b + 1) (z - (b + 1))
-  plan-step b z h =
-      let e : z - b ≡ suc (z - (b + 1)) = omega arith in
-      rw (e, add-one b) (plan-next b (z - suc b))
+  -- bytes without a match
+  plan-none : (n b k : ℕ) → ((j : ℕ) → j < n → matchAt S D (b + j) ≡ unmatched) → planFrom S D b (n + k) ≡ planFrom S D (b + n) k
+  plan-none zero b k none = rw (zero-add, add-zero) refl
+  plan-none (suc n) b k none =
+      let more : suc n + k ≡ suc (n + k) = omega arith in
+      let on : b + suc n ≡ suc b + n = omega arith in
+      rw (more, on)
+      (plan-next b (n + k)
+      ∙ rw (rw add-zero at (none 0 (omega arith)))
+      (plan-none n (suc b) k (λ j l. let at : suc b + j ≡ b + suc j = omega arith in rw at (none (suc j) (omega arith)))))
+
+  -- one byte with what it has, and those behind it without a match
+  plan-step : (b n z : ℕ) → 1 ≤ n → b + n ≤ z → ((j : ℕ) → 1 ≤ j → j < n → matchAt S D (b + j) ≡ unmatched)
+      → planFrom S D b (z - b) ≡ entryOf b (matchAt S D b) ++ planFrom S D (b + n) (z - (b + n))
+  plan-step b n z some inside none =
+      let count : z - b ≡ suc (n - 1 + (z - (b + n))) = omega arith in
+      let on : suc b + (n - 1) ≡ b + n = omega arith in
+      rw count
+      (plan-next b (n - 1 + (z - (b + n)))
+      ∙ ap (λ (l : List Entry). entryOf b (matchAt S D b) ++ l)
+      (plan-none (n - 1) (suc b) (z - (b + n)) (λ j l. let at : suc b + j ≡ b + suc j = omega arith in rw at (none (suc j) (omega arith) (omega arith)))
+      ∙ rw on refl))
+
+-- n bytes from byte b on lie in D, and none but the first has a match
+pub record Stepped (S D : Datatype) (b n : ℕ) : Type 0 where
+  pub some : 1 ≤ n
+  pub inside : b + n ≤ size D
+  pub none : (j : ℕ) → 1 ≤ j → j < n → matchAt S D (b + j) ≡ unmatched
+
+module _ (S D : Datatype) (f : WellFormed S) (g : WellFormed D) where
+  -- no leaf starts inside a leaf
+  leaf-stepped : (b : ℕ) {a : ℕ} {x y : Leaf} → matchAt S D b ≡ matched a x y → Stepped S D b (leafSize y)
+  leaf-stepped b {a} {x} {y} e =
+      record {
+        some = size-some (leaf y) (match-formed S D f g b a x y e .1);
+        inside = in-range S D f g b a x y e .0;
+        none = λ j l h. go j l h (matchAt S D (b + j)) refl;
+      }
+    where
+      go : (j : ℕ) → 1 ≤ j → j < leafSize y → (m : Match) → matchAt S D (b + j) ≡ m → m ≡ unmatched
+      go j l h unmatched q = refl
+      go j l h (matched c u v) q =
+          absurd (omega (arith, leaves-apart D g b (b + j) y v (match-leaf S D f g b a x y e) (match-leaf S D f g (b + j) c u v q) (omega arith)))
+
+none-stepped : (S D : Datatype) (b n : ℕ) → NoneMatched S D b n → Stepped S D b n
+none-stepped S D b n none =
+    record { some = none .some; inside = omega (arith, none .some, none .each (n - 1) (omega (arith, none .some)) .0); none = λ j l h. none .each j h .1 }
+
+leaf-size : (w t : List ℕ) (k : ℕ) → leafSize (leafOfType w t k) ≡ sizeWord w k
+unfolding leafOfType layoutAt
+leaf-size w t k = go (eqb (classWord w k) 2)
+  where
+    go : (x : Bool) → leafSize (cond x (enumeration (layoutAt w k) (symbolsAt w t (firstWord w k) (rowsWord w k))) (atomic (layoutAt w k))) ≡ sizeWord w k
+    go true = refl
+    go false = refl
+
+pub step-matched : (wd : List ℕ) {m : Pair} {a s d r : ℕ} → m ≡ Matched a s d → Reads (sizeWord wd d) r → r ≡ stepOf wd m
+step-matched wd e hr = rw e (hr .is)
+
+stepped : (ws ts : List ℕ) (i : ℕ) (wd td : List ℕ) (k b : ℕ) (m : Pair) → WellFormed (typeAt ws ts i) → WellFormed (typeAt wd td k) → MatchFound ws ts i wd td k b m
+    → Stepped (typeAt ws ts i) (typeAt wd td k) b (stepOf wd m)
+stepped ws ts i wd td k b (Matched a s d) f g found = rw (← leaf-size wd td d) (leaf-stepped (typeAt ws ts i) (typeAt wd td k) f g b (sym (found .is)))
+stepped ws ts i wd td k b (Unmatched n) f g found = none-stepped (typeAt ws ts i) (typeAt wd td k) b n (found .behind)
+
+-- ---- the plan
 
 -- the plan p, with n entries so far, has those of the leaves that start below byte b of the destination's `bytes`
 pub record Filled (ws ts : List ℕ) (i : ℕ) (wd td : List ℕ) (k : ℕ) (before : List ℕ) (bytes : ℕ) (p : List ℕ) (n b : ℕ) : Type 0 where
   pub entries : entriesAt p n ws ts wd td ++ planFrom (typeAt ws ts i) (typeAt wd td k) b (bytes - b) ≡ planOf (typeAt ws ts i) (typeAt wd td k)
   pub room : length p ≡ length before
+  pub space : 2 * bytes ≤ length before
   pub few : n ≤ b
   pub inside : b ≤ bytes
+  pub whole : bytes ≡ size (typeAt wd td k)
   pub most : bytes ≤ 4096
 
 module _ (ws ts : List ℕ) (i : ℕ) (wd td : List ℕ) (k : ℕ) {bytes : ℕ} where
-  pub filled-start : (p : List ℕ) → Reads (sizeWord wd k) bytes → WellFormed (typeAt wd td k) → Filled ws ts i wd td k p bytes p 0 0
+  pub filled-start : (p : List ℕ) → Reads (sizeWord wd k) bytes → WellFormed (typeAt wd td k) → 2 * size (typeAt wd td k) ≤ length p
+      → Filled ws ts i wd td k p bytes p 0 0
   unfolding entriesFrom
-  filled-start p h formed =
-      let is : size (typeAt wd td k) ≡ bytes = size-decode 64 wd td k ∙ sym (h .is) in
+  filled-start p h formed space =
+      let is : bytes ≡ size (typeAt wd td k) = h .is ∙ sym (size-decode 64 wd td k) in
       record {
-        entries = let all : bytes - 0 ≡ bytes = omega arith in rw (is, all) refl;
+        entries = let all : bytes - 0 ≡ bytes = omega arith in rw (all, is) refl;
         room = refl;
+        space = omega arith;
         few = omega arith;
         inside = omega arith;
+        whole = is;
         most = omega (arith, size-most (typeAt wd td k) formed);
       }
 
   module _ {before p : List ℕ} {n b : ℕ} (filled : Filled ws ts i wd td k before bytes p n b) where
-    pub filled-next : {m : Pair} {q : List ℕ} {r : ℕ} → b < bytes → MatchFound ws ts i wd td k b m → Added p n b m q r → Filled ws ts i wd td k before bytes q r (b + 1)
-    filled-next {m} h found added =
-        record {
-          entries =
-              rw (added .entries ws ts wd td, found .is, append-assoc, ← (plan-step (typeAt ws ts i) (typeAt wd td k) b bytes h)) (filled .entries);
-          room = added .room ∙ filled .room;
-          few = omega (arith, added .most, filled .few);
-          inside = omega arith;
-          most = filled .most;
-        }
+    module _ {m : Pair} {step : ℕ} (fs : WellFormed (typeAt ws ts i)) (fd : WellFormed (typeAt wd td k)) (found : MatchFound ws ts i wd td k b m) (hs : step ≡ stepOf wd m) where
+      on : Stepped (typeAt ws ts i) (typeAt wd td k) b step
+      on = rw hs (stepped ws ts i wd td k b m fs fd found)
+
+      -- the step goes on, and not past the end
+      pub step-some : 1 ≤ step
+      step-some = on .some
+
+      pub step-inside : b + step ≤ bytes
+      step-inside = omega (arith, on .inside, filled .whole)
+
+      pub filled-next : {q : List ℕ} {r : ℕ} → Added p n b m q r → Filled ws ts i wd td k before bytes q r (b + step)
+      filled-next added =
+          record {
+            entries =
+                rw (
+                  added .entries ws ts wd td,
+                  found .is,
+                  append-assoc,
+                  ← (plan-step (typeAt ws ts i) (typeAt wd td k) b step bytes step-some step-inside (on .none)),
+                ) (filled .entries);
+            room = added .room ∙ filled .room;
+            space = filled .space;
+            few = omega (arith, added .most, filled .few, step-some);
+            inside = step-inside;
+            whole = filled .whole;
+            most = filled .most;
+          }
 
     pub filled-done : bytes ≤ b → Planned ws ts i wd td k before p n
     filled-done h =
         record {
           entries = sym (append-nil (entriesAt p n ws ts wd td)) ∙ rw (plan-done (typeAt ws ts i) (typeAt wd td k) b bytes h) at (filled .entries);
           room = filled .room;
+          few = omega (arith, filled .few, filled .inside, filled .whole);
           most = omega (arith, filled .few, filled .inside, filled .most);
         }
 

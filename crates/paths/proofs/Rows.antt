@@ -1,19 +1,24 @@
 -- The members in a table's rows, found by a byte and by a name. Assumes nothing.
-use mathlib.Core.Path.{_≡_, refl, ap, _∙_}
-use mathlib.Core.Bool.{Bool, true, false, cond}
+use mathlib.Core.Path.{_≡_, refl, sym, ap, _∙_}
+use mathlib.Core.Logic.{_⊎_, inl, inr}
+use mathlib.Core.Bool.{Bool, true, false, cond, false≢true}
 use mathlib.Core.List.{List}
 use Prim.Native.Nat.{ℕ, zero, suc, _+_, _-_, _≤_, _<_}
-use native.Mathlib.Nat.{not-suc-le-zero}
+use native.Mathlib.Nat.{not-suc-le-zero, lt-of-not-le}
+use native.Mathlib.Decide.{decLe}
 use native.Mathlib.Numerals.{sub-one}
 use native.Mathlib.Omega.{arith}
 use Rattle.datatype.specs.Datatype.{Datatype, size}
-use Rattle.datatype.specs.WellFormed.{WellFormed, WellFormedIn}
+use Rattle.datatype.specs.Leaves.{within}
+use Rattle.datatype.specs.WellFormed.{Apart, WellFormed, WellFormedIn}
+use Rattle.datatype.proofs.Tests.{within→, →within, not-within}
 use Rattle.datatype.proofs.Ways.{formed-found}
 use Rattle.table.specs.declared.Found.the-variants.{At, Missing}
-use Rattle.table.specs.Table.{offsetWord, memberTypeWord, membersAt}
+use Rattle.table.specs.Table.{sizeWord, offsetWord, memberTypeWord, membersAt}
+use Rattle.table.specs.Words.{Reads}
 use Rattle.table.specs.Rows.{rowNamed, memberFound}
 use Rattle.table.proofs.Lookups.{member-named}
-use Rattle.paths.specs.Steps.{covers, rowOver}
+use Rattle.paths.specs.Steps.{Sized, covers, rowOver, rowEnd, Nearer, GapEnd}
 
 pub cond-push : {A B : Type 0} (f : A → B) (x y : A) (t : Bool) → cond t (f x) (f y) ≡ f (cond t x y)
 cond-push f x y true = refl
@@ -37,21 +42,118 @@ module _ (w : List ℕ) (first b : ℕ) where
   over-skip zero h e q = absurd (not-suc-le-zero h)
   over-skip (suc n) h e q = rw sub-one (rw (← (rw sub-one at e), q) refl)
 
+  -- a row that is found has the byte
+  pub over-covers : (n : ℕ) {j : ℕ} → rowOver w first n b ≡ At j → covers w j b ≡ true
+  unfolding rowOver
+  over-covers zero e = let no : _≡_ {A = ℕ} 0 1 = cc in absurd (omega arith)
+  over-covers (suc n) {j} e = go (over-covers n) (covers w (first + n) b) refl e
+    where
+      go : (rowOver w first n b ≡ At j → covers w j b ≡ true) → (c : Bool) → covers w (first + n) b ≡ c → cond c (At (first + n)) (rowOver w first n b) ≡ At j
+          → covers w j b ≡ true
+      go later true h q = let at : first + n ≡ j = cc in rw at at h
+      go later false h q = later q
+
+-- ---- between members
+
+module _ (w : List ℕ) (first n b end : ℕ) where
+  pub gap-start : b < end → GapEnd w first n n b end end
+  gap-start h = record { behind = h; inside = omega arith; clear = λ i l r. absurd (omega arith) }
+
+  pub gap-next : (left at o r : ℕ) → GapEnd w first left n b end at → 0 < left → Reads (offsetWord w (first + (left - 1))) o → Nearer b o at r
+      → GapEnd w first (left - 1) n b end r
+  gap-next left at o r gap h ho near =
+      record {
+        behind = near .behind;
+        inside = omega (arith, near .inside, gap .inside);
+        clear = λ i l k. go i l k (decLe left i);
+      }
+    where
+      later : (i : ℕ) → (offsetWord w (first + i) ≤ b) ⊎ (at ≤ offsetWord w (first + i)) → (offsetWord w (first + i) ≤ b) ⊎ (r ≤ offsetWord w (first + i))
+      later i (inl k) = inl k
+      later i (inr k) = inr (omega (arith, near .inside))
+
+      go : (i : ℕ) → left - 1 ≤ i → i < n → Dec (left ≤ i) → (offsetWord w (first + i) ≤ b) ⊎ (r ≤ offsetWord w (first + i))
+      go i l k (yes m) = later i (gap .clear i m k)
+      go i l k (no m) = let last : i ≡ left - 1 = omega (arith, lt-of-not-le m) in rw (last, ← (ho .is)) (near .clear)
+
+  pub gap-all : (left r : ℕ) → GapEnd w first left n b end r → left ≤ 0 → GapEnd w first 0 n b end r
+  gap-all left r gap h = record { behind = gap .behind; inside = gap .inside; clear = λ i l k. gap .clear i (omega arith) k }
+
+-- one member is neither at byte b nor behind it before byte r
+past-within : (o v b c r : ℕ) → within o v b ≡ false → (o ≤ b) ⊎ (r ≤ o) → b ≤ c → c < r → within o v c ≡ false
+past-within o v b c r e clear l h = go (within o v c) refl clear
+  where
+    go : (t : Bool) → within o v c ≡ t → (o ≤ b) ⊎ (r ≤ o) → t ≡ false
+    go false q k = refl
+    go true q (inl k) =
+        let at : o + (b - o) ≡ b = omega arith in
+        absurd (false≢true (sym e ∙ rw at at (→within o v (b - o) (omega (arith, within→ o v c q)))))
+    go true q (inr k) = absurd (omega (arith, within→ o v c q))
+
+pub over-gap : (w : List ℕ) (first n b c r : ℕ) → ((i : ℕ) → i < n → (offsetWord w (first + i) ≤ b) ⊎ (r ≤ offsetWord w (first + i)))
+    → rowOver w first n b ≡ Missing → b ≤ c → c < r → rowOver w first n c ≡ Missing
+unfolding rowOver
+over-gap w first zero b c r clear e l h = refl
+over-gap w first (suc n) b c r clear e l h = go (λ q. over-gap w first n b c r (λ i g. clear i (omega arith)) q l h) (covers w (first + n) b) refl e
+  where
+    go : (rowOver w first n b ≡ Missing → rowOver w first n c ≡ Missing) → (x : Bool) → covers w (first + n) b ≡ x → cond x (At (first + n)) (rowOver w first n b) ≡ Missing
+        → cond (covers w (first + n) c) (At (first + n)) (rowOver w first n c) ≡ Missing
+    go later true k q = let no : _≡_ {A = ℕ} 0 1 = cc in absurd (omega arith)
+    go later false k q =
+        rw (past-within (offsetWord w (first + n)) (sizeWord w (memberTypeWord w (first + n))) b c r k (clear n (omega arith)) l h)
+        (later q)
+
 -- ---- what a row that is found is
 
 module _ (D : ℕ → Datatype) (w t : List ℕ) (z first : ℕ) where
-  pub over-formed : (n b : ℕ) {j : ℕ} → WellFormedIn z (membersAt D w t first n) → rowOver w first n b ≡ At j → WellFormed (D (memberTypeWord w j))
+  pub over-formed : (n b : ℕ) {j : ℕ} → WellFormedIn z (membersAt D w t first n) → rowOver w first n b ≡ At j
+      → (offsetWord w j + size (D (memberTypeWord w j)) ≤ z) × WellFormed (D (memberTypeWord w j))
   unfolding rowOver membersAt
   over-formed zero b f e = let no : _≡_ {A = ℕ} 0 1 = cc in absurd (omega arith)
   over-formed (suc n) b {j} f e = go (over-formed n b (f .2)) (covers w (first + n) b) e
     where
-      go : (rowOver w first n b ≡ At j → WellFormed (D (memberTypeWord w j))) → (c : Bool) → cond c (At (first + n)) (rowOver w first n b) ≡ At j → WellFormed (D (memberTypeWord w j))
-      go later true q = let at : first + n ≡ j = cc in rw (← at) (f .1)
+      go : (rowOver w first n b ≡ At j → (offsetWord w j + size (D (memberTypeWord w j)) ≤ z) × WellFormed (D (memberTypeWord w j)))
+          → (c : Bool) → cond c (At (first + n)) (rowOver w first n b) ≡ At j → (offsetWord w j + size (D (memberTypeWord w j)) ≤ z) × WellFormed (D (memberTypeWord w j))
+      go later true q = let at : first + n ≡ j = cc in rw (← at) (f .0 .inside, f .1)
       go later false q = later q
 
   pub named-formed : (x : List ℕ) (n : ℕ) {j : ℕ} → WellFormedIn z (membersAt D w t first n) → rowNamed w t x first n ≡ At j
       → (offsetWord w j + size (D (memberTypeWord w j)) ≤ z) × WellFormed (D (memberTypeWord w j))
   named-formed x n f e = formed-found z (membersAt D w t first n) x f (member-named w t x first D n ∙ ap (memberFound D w) e)
+
+  -- the bytes from o on lie apart from the member in a row that is found
+  apart-over : (o v n b : ℕ) {j : ℕ} → Apart o v (membersAt D w t first n) → rowOver w first n b ≡ At j
+      → (o + v ≤ offsetWord w j) ⊎ (offsetWord w j + size (D (memberTypeWord w j)) ≤ o)
+  unfolding rowOver membersAt
+  apart-over o v zero b a e = let no : _≡_ {A = ℕ} 0 1 = cc in absurd (omega arith)
+  apart-over o v (suc n) b {j} a e = go (apart-over o v n b (a .1)) (covers w (first + n) b) e
+    where
+      go : (rowOver w first n b ≡ At j → (o + v ≤ offsetWord w j) ⊎ (offsetWord w j + size (D (memberTypeWord w j)) ≤ o))
+          → (c : Bool) → cond c (At (first + n)) (rowOver w first n b) ≡ At j → (o + v ≤ offsetWord w j) ⊎ (offsetWord w j + size (D (memberTypeWord w j)) ≤ o)
+      go later true q = let at : first + n ≡ j = cc in rw (← at) (a .0)
+      go later false q = later q
+
+  -- the same row is found by every byte of its member
+  pub over-same : Sized D w → (n b c : ℕ) {j : ℕ} → WellFormedIn z (membersAt D w t first n) → rowOver w first n b ≡ At j → offsetWord w j ≤ c → c < rowEnd w j
+      → rowOver w first n c ≡ At j
+  unfolding rowOver membersAt
+  over-same sized zero b c f e l r = let no : _≡_ {A = ℕ} 0 1 = cc in absurd (omega arith)
+  over-same sized (suc n) b c {j} f e l r = go (λ q. over-same sized n b c (f .2) q l r) (covers w (first + n) b) e
+    where
+      at : offsetWord w j + (c - offsetWord w j) ≡ c
+      at = omega arith
+
+      go : (rowOver w first n b ≡ At j → rowOver w first n c ≡ At j) → (x : Bool) → cond x (At (first + n)) (rowOver w first n b) ≡ At j
+          → cond (covers w (first + n) c) (At (first + n)) (rowOver w first n c) ≡ At j
+      go later true q =
+          let is : first + n ≡ j = cc in
+          rw (is, ← at, →within (offsetWord w j) (sizeWord w (memberTypeWord w j)) (c - offsetWord w j) (omega arith)) refl
+      go later false q =
+          let o : ℕ = offsetWord w (first + n) in
+          let v : ℕ = size (D (memberTypeWord w (first + n))) in
+          let apart = apart-over o v n b (f .0 .apart) q in
+          rw (← sized (memberTypeWord w (first + n)), ← at, not-within o v (offsetWord w j) (size (D (memberTypeWord w j))) (c - offsetWord w j) apart (omega (arith, sized (memberTypeWord w j))), at)
+          (later q)
 
   -- the newest row, and the others
   pub row-formed : (n : ℕ) → 0 < n → WellFormedIn z (membersAt D w t first n)

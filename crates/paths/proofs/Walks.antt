@@ -3,20 +3,21 @@ use mathlib.Core.Path.{_≡_, refl, sym, ap, _∙_}
 use mathlib.Core.Bool.{Bool, true, false, cond, _&&_}
 use mathlib.Core.List.{List}
 use Prim.Native.Nat.{ℕ, zero, suc, _+_, _-_, _*_, _/_, _%_, _≤_, _<_}
-use native.Mathlib.Nat.{not-suc-le-zero, zero-add, add-zero, add-assoc, mul-le-mul-right, le-of-lt, le-trans, div-lt-iff-lt-mul, div-le-self, lt-of-le-of-lt, mul-le-mul, le-pred-of-lt}
+use native.Mathlib.Nat.{not-suc-le-zero, zero-add, add-zero, add-assoc, suc-mul, mul-le-mul-right, le-of-lt, le-trans, div-lt-iff-lt-mul, div-add-mod', mul-add-div-right, mul-add-mod-self-right, div-eq-of-lt, mod-eq-of-lt, mod-lt, div-le-self, lt-of-le-of-lt, mul-le-mul, le-pred-of-lt}
 use native.Mathlib.Omega.{arith}
 use lib.Dec.{eqb, ltb, lit<}
 use mir.Syntax.{w64}
 use mir.Val.{Fits}
 use borrow.Author.Needs.{needs}
-use borrow.Author.Tests.{ne-eqb, eq-eqb, lt-ltb, le-ltb}
-use Rattle.datatype.specs.Datatype.{Leaf, Datatype, Members, elements}
+use borrow.Author.Tests.{ne-eqb, eq-eqb, lt-ltb}
+use Rattle.datatype.specs.Datatype.{Leaf, Datatype, Members, size, elements}
 use Rattle.datatype.specs.Datatype.Datatype.{leaf, compound, array}
 use Rattle.datatype.specs.Paths.{Lookup, onFound, isCompound, isArrayLike}
 use Rattle.datatype.specs.Matches.{Match, further, matchLeaf, matchAt, matchIn}
 use Rattle.datatype.specs.Matches.Match.{unmatched, matched}
 use Rattle.datatype.specs.WellFormed.{WellFormed}
-use Rattle.datatype.proofs.Matches.{size-most, in-range}
+use Rattle.datatype.proofs.Tests.{within→}
+use Rattle.datatype.proofs.Matches.{size-some, size-most, in-range, match-formed}
 use Rattle.table.specs.declared.Found.{Found}
 use Rattle.table.specs.declared.Found.the-variants.{At, Missing}
 use Rattle.table.specs.Table.{sizeWord, baseWord, firstWord, rowsWord, offsetWord, memberTypeWord, nameAt, membersAt, dimensionsAt, node, decode, typeAt}
@@ -27,31 +28,39 @@ use Rattle.paths.specs.declared.Walk.{Walk}
 use Rattle.paths.specs.declared.Walk.the-variants.{On, Same, Off}
 use Rattle.paths.specs.declared.Pair.the-variants.{Matched, Unmatched}
 use Rattle.paths.specs.Leaf.{leafOfType, MatchFound}
-use Rattle.paths.specs.Steps.{Sized, Whole, kindAt, Counts, covers, rowOver, membersOfType, matchAfter, Led, Leads, matchNamed, LeadsIn}
-use Rattle.paths.proofs.Shapes.{leaf-low, treeKind, tree-kind, compound-node, array-node, leaf-node, decode-step, whole, type-low, formed-compound, formed-array, element-some}
-use Rattle.paths.proofs.Rows.{cond-push, over-formed, named-formed}
+use Rattle.paths.specs.Steps.{Sized, Whole, kindAt, Counts, covers, rowOver, rowEnd, GapEnd, membersOfType, Reaches, matchAfter, Led, Leads, matchNamed, LeadsIn}
+use Rattle.paths.proofs.Shapes.{leaf-low, treeKind, tree-kind, compound-node, array-node, leaf-node, decode-step, size-decode, whole, type-low, formed-compound, formed-array, element-some}
+use Rattle.paths.proofs.Rows.{cond-push, over-covers, over-gap, over-formed, over-same, named-formed}
 
 -- ---- from a destination's row into a source compound
 
-module _ (ws ts : List ℕ) (s : ℕ) (wd td : List ℕ) (j b : ℕ) (kind : kindAt ws s ≡ 3) {r : Found} (hr : r ≡ rowNamed ws ts (nameAt wd td j) (firstWord ws s) (rowsWord ws s)) where
-  abbrev inFound : (ℕ → Datatype) → Lookup → Match
-  inFound D = onFound (λ o T. further o (matchAt T (D (memberTypeWord wd j)) (b - offsetWord wd j))) unmatched
+module _ (ws ts : List ℕ) (s : ℕ) (wd td : List ℕ) (j b : ℕ) (kind : kindAt ws s ≡ 3) (here : covers wd j b ≡ true) {r : Found}
+    (hr : r ≡ rowNamed ws ts (nameAt wd td j) (firstWord ws s) (rowsWord ws s)) where
+  abbrev inFound : (ℕ → Datatype) → ℕ → Lookup → Match
+  inFound D c = onFound (λ o T. further o (matchAt T (D (memberTypeWord wd j)) (c - offsetWord wd j))) unmatched
 
-  named-is : (S D : ℕ → Datatype) {v : Found} → r ≡ v → matchNamed D (membersOfType S ws ts s) wd td j b ≡ inFound D (memberFound S ws v)
-  named-is S D e =
-      ap (inFound D) (member-named ws ts (nameAt wd td j) (firstWord ws s) S (rowsWord ws s) ∙ ap (memberFound S ws) (sym hr ∙ e))
+  named-is : (S D : ℕ → Datatype) (c : ℕ) {v : Found} → r ≡ v → matchNamed D (membersOfType S ws ts s) wd td j c ≡ inFound D c (memberFound S ws v)
+  named-is S D c e =
+      ap (inFound D c) (member-named ws ts (nameAt wd td j) (firstWord ws s) S (rowsWord ws s) ∙ ap (memberFound S ws) (sym hr ∙ e))
 
-  pub named-off : r ≡ Missing → LeadsIn ws ts s wd td j b Off
-  named-off e S D x y whole formed = record { is = named-is S D e; onward = tt }
+  in-row : (offsetWord wd j ≤ b) × (b < rowEnd wd j)
+  in-row = within→ (offsetWord wd j) (sizeWord wd (memberTypeWord wd j)) b here
+
+  pub named-off : {e : ℕ} → r ≡ Missing → e ≡ rowEnd wd j → LeadsIn ws ts s wd td j b (Off e)
+  named-off none he S D x y whole formed =
+      record { is = λ i l. (omega arith, named-is S D (b + i) none); onward = omega (arith, in-row) }
 
   pub named-on : {m from k l o a : ℕ} → r ≡ At m → Reads (offsetWord ws m) from → Reads (memberTypeWord ws m) k → Reads (memberTypeWord wd j) l
       → Reads (offsetWord wd j) o → a ≡ b - o → LeadsIn ws ts s wd td j b (On from k l a)
-  named-on {m} e hf hk hl ho ha S D x y whole formed =
+  named-on {m} {l = l} {o = o} {a = a} e hf hk hl ho ha S D x y whole formed =
       let in-compound = formed-compound S ws ts s whole kind in
       let found = named-formed S ws ts (sizeWord ws s) (firstWord ws s) (nameAt wd td j) (rowsWord ws s) (in-compound .1) (sym hr ∙ e) in
+      let same : sizeWord wd l ≡ sizeWord wd (memberTypeWord wd j) = ap (sizeWord wd) (hl .is) in
       record {
-        is = named-is S D e ∙ rw (ha, hf .is, hk .is, hl .is, ho .is) refl;
-        onward = (omega (arith, found .0, in-compound .0 .most, hf .is), rw (hk .is) (found .1), rw (hl .is) formed);
+        is = λ i h.
+            let at : b + i - offsetWord wd j ≡ a + i = omega (arith, in-row, ho .is) in
+            (omega (arith, in-row, ho .is), named-is S D (b + i) e ∙ rw (at, hf .is, hk .is, hl .is) refl);
+        onward = (omega (arith, found .0, in-compound .0 .most, hf .is), omega (arith, in-row, ho .is), rw (hk .is) (found .1), rw (hl .is) formed);
       }
 
 pub ruleset named-laws = (needs, named-off, named-on)
@@ -73,78 +82,119 @@ module _ (D : ℕ → Datatype) (wd td : List ℕ) (sized : Sized D wd) (ss : Me
 
 module _ (ws ts : List ℕ) (s : ℕ) (wd td : List ℕ) (d b : ℕ) (ks : kindAt ws s ≡ 3) (kd : kindAt wd d ≡ 3) {first n : ℕ} {r : Found}
     (hf : Reads (firstWord wd d) first) (hn : Reads (rowsWord wd d) n) (hr : r ≡ rowOver wd first n b) where
-  compound-is : (S D : ℕ → Datatype) (sized : Sized D wd) {v : Found} → r ≡ v
-      → matchAt (node S ws ts s) (node D wd td d) b ≡ matchOver D wd td sized (membersOfType S ws ts s) first b v
+  compound-is : (S D : ℕ → Datatype) (sized : Sized D wd) (c : ℕ) {v : Found} → rowOver wd first n c ≡ v
+      → matchAt (node S ws ts s) (node D wd td d) c ≡ matchOver D wd td sized (membersOfType S ws ts s) first c v
   unfolding matchAt
-  compound-is S D sized e =
+  compound-is S D sized c e =
       rw (compound-node S ws ts s ks, compound-node D wd td d kd, ← (hf .is), ← (hn .is))
-      (members-match D wd td sized (membersOfType S ws ts s) first b n
-      ∙ ap (matchOver D wd td sized (membersOfType S ws ts s) first b) (sym hr ∙ e))
+      (members-match D wd td sized (membersOfType S ws ts s) first c n
+      ∙ ap (matchOver D wd td sized (membersOfType S ws ts s) first c) e)
 
-  pub compound-off : r ≡ Missing → Leads ws ts s wd td d b Off
-  compound-off e S D fs fd = record { is = compound-is S D (fd .sized) e; onward = tt }
+  pub compound-off : {z e : ℕ} → r ≡ Missing → Reads (sizeWord wd d) z → GapEnd wd first 0 n b z e → Leads ws ts s wd td d b (Off e)
+  compound-off {z} {e} none hz gap S D fs fd =
+      record {
+        is = λ i l. (
+          omega (arith, gap .inside, hz .is),
+          compound-is S D (fd .sized) (b + i)
+              (over-gap wd first n b (b + i) e (λ q h. gap .clear q (omega arith) h) (sym hr ∙ none) (omega arith) l),
+        );
+        onward = gap .behind;
+      }
+
+  -- the row that is found has the byte
+  pub compound-covers : {j : ℕ} → r ≡ At j → covers wd j b ≡ true
+  compound-covers e = over-covers wd first b n (sym hr ∙ e)
 
   pub compound-on : {j : ℕ} {v : Walk} → r ≡ At j → LeadsIn ws ts s wd td j b v → Leads ws ts s wd td d b v
-  compound-on {j} e leads S D fs fd =
-      let formed = over-formed D wd td (sizeWord wd d) first n b (rw (← (hf .is), ← (hn .is)) at (formed-compound D wd td d fd kd .1)) (sym hr ∙ e) in
-      let led = leads S D (leafOfType ws ts s) (leafOfType wd td d) fs formed in
-      record { is = compound-is S D (fd .sized) e ∙ led .is; onward = led .onward }
+  compound-on {j} {v} e leads S D fs fd =
+      let formed = rw (← (hf .is), ← (hn .is)) at (formed-compound D wd td d fd kd .1) in
+      let inner = over-formed D wd td (sizeWord wd d) first n b formed (sym hr ∙ e) in
+      let led = leads S D (leafOfType ws ts s) (leafOfType wd td d) fs (inner .1) in
+      let from = within→ (offsetWord wd j) (sizeWord wd (memberTypeWord wd j)) b (compound-covers e) in
+      record {
+        is = λ i l. (
+          omega (arith, led .is i l .0, inner .0, fd .sized (memberTypeWord wd j)),
+          compound-is S D (fd .sized) (b + i)
+              (over-same D wd td (sizeWord wd d) first (fd .sized) n b (b + i) formed (sym hr ∙ e) (omega (arith, from .0)) (led .is i l .0))
+              ∙ led .is i l .1,
+        );
+        onward = led .onward;
+      }
 
-pub ruleset compound-laws = (needs, compound-off, compound-on)
+pub ruleset compound-laws = (needs, compound-off, compound-on, compound-covers)
 
 -- ---- arrays
 
-and-false : (t : Bool) → t && false ≡ false
-and-false true = refl
-and-false false = refl
+module _ (b y j : ℕ) (l : b % y + j < y) where
+  further-on : b / y * y + (b % y + j) ≡ b + j
+  further-on = omega (arith, div-add-mod' b y)
+
+  -- the rest of an element lies in the same one
+  same-element : (b + j) / y ≡ b / y
+  same-element =
+      rw (← further-on, mul-add-div-right {m = y} (omega arith) (b / y) (b % y + j), div-eq-of-lt l, add-zero) refl
+
+  in-element : (b + j) % y ≡ b % y + j
+  in-element = rw (← further-on, mul-add-mod-self-right (b / y) y (b % y + j)) (mod-eq-of-lt l)
+
+  -- and so in the array
+  in-array : (n z : ℕ) → z ≡ n * y → b < z → b + j < z
+  in-array n z e h =
+      let q : b / y < n = div-lt-iff-lt-mul {k = y} {x = b} {y = n} (omega arith) .1 (rw e at h) in
+      omega (arith, e, further-on, suc-mul (b / y) y, mul-le-mul-right y q)
 
 -- the element's place in the source array
 element-short : (b n z y w x : ℕ) → 1 ≤ y → z ≡ n * y → b < z → w ≡ n * x → w ≤ 4096 → b / y * x ≤ 4096
 element-short b n z y w x p e l q h =
     le-trans (mul-le-mul-right x (le-of-lt (div-lt-iff-lt-mul {k = y} {x = b} {y = n} p .1 (rw e at l)))) (rw q at h)
 
-module _ (ws : List ℕ) (s : ℕ) (wd : List ℕ) (d b : ℕ) (ks : kindAt ws s ≡ 4) (kd : kindAt wd d ≡ 4) {m n : ℕ} (hm : Counts ws s m) (hn : Counts wd d n) where
+module _ (ws : List ℕ) (s : ℕ) (wd : List ℕ) (d b : ℕ) (ks : kindAt ws s ≡ 4) (kd : kindAt wd d ≡ 4) (here : b < sizeWord wd d)
+    {m n : ℕ} (hm : Counts ws s m) (hn : Counts wd d n) where
   module _ (ts td : List ℕ) (S D : ℕ → Datatype) (fs : Whole S ws ts s) (fd : Whole D wd td d) where
-    array-is : matchAt (node S ws ts s) (node D wd td d) b
-        ≡ cond (eqb m n && ltb b (sizeWord wd d))
-        (further (b / sizeWord wd (baseWord wd d) * sizeWord ws (baseWord ws s)) (matchAt (S (baseWord ws s)) (D (baseWord wd d)) (b % sizeWord wd (baseWord wd d))))
+    array-is : (c : ℕ) → matchAt (node S ws ts s) (node D wd td d) c
+        ≡ cond (eqb m n && ltb c (sizeWord wd d))
+        (further (c / sizeWord wd (baseWord wd d) * sizeWord ws (baseWord ws s)) (matchAt (S (baseWord ws s)) (D (baseWord wd d)) (c % sizeWord wd (baseWord wd d))))
         unmatched
     unfolding matchAt
-    array-is =
+    array-is c =
         rw (array-node S ws ts s ks, array-node D wd td d kd, fs .sized (baseWord ws s), fd .sized (baseWord wd d), hm S ts fs ks, hn D td fd kd) refl
 
-  pub array-counts : (m ≡ n → ⊥) → (ts td : List ℕ) → Leads ws ts s wd td d b Off
-  array-counts e ts td S D fs fd = record { is = array-is ts td S D fs fd ∙ rw (ne-eqb m n e) refl; onward = tt }
+  pub array-counts : {z : ℕ} → (m ≡ n → ⊥) → Reads (sizeWord wd d) z → (ts td : List ℕ) → Leads ws ts s wd td d b (Off z)
+  array-counts e hz ts td S D fs fd =
+      record { is = λ j l. (omega (arith, hz .is), array-is ts td S D fs fd (b + j) ∙ rw (ne-eqb m n e) refl); onward = omega (arith, hz .is) }
 
-  module _ (e : m ≡ n) {z l y k x : ℕ} (hz : Reads (sizeWord wd d) z) (hl : Reads (baseWord wd d) l) (hy : Reads (sizeWord wd l) y)
-      (hk : Reads (baseWord ws s) k) (hx : Reads (sizeWord ws k) x) where
-    pub array-past : z ≤ b → (ts td : List ℕ) → Leads ws ts s wd td d b Off
-    array-past h ts td S D fs fd =
-        record { is = array-is ts td S D fs fd ∙ rw (← (hz .is), le-ltb b z h, and-false (eqb m n)) refl; onward = tt }
-
-    pub array-on : {q a : ℕ} → b < z → q ≡ b / y → a ≡ b % y → (ts td : List ℕ) → Leads ws ts s wd td d b (On (q * x) k l a)
-    array-on h hq ha ts td S D fs fd =
+  module _ (e : m ≡ n) {l y k x : ℕ} (hl : Reads (baseWord wd d) l) (hy : Reads (sizeWord wd l) y) (hk : Reads (baseWord ws s) k) (hx : Reads (sizeWord ws k) x) where
+    pub array-on : {q a : ℕ} → q ≡ b / y → a ≡ b % y → (ts td : List ℕ) → Leads ws ts s wd td d b (On (q * x) k l a)
+    array-on {q} {a} hq ha ts td S D fs fd =
         let gs = formed-array S ws ts s fs ks in
         let gd = formed-array D wd td d fd kd in
+        let some : 1 ≤ y = rw (hy .is, hl .is) (element-some D wd td d fd kd) in
+        let product : sizeWord wd d ≡ elements (dimensionsAt wd d) * y = rw (hy .is, hl .is) (gd .0 .product) in
         record {
-          is = array-is ts td S D fs fd ∙ rw (eq-eqb m n e, ← (hz .is), lt-ltb b z h, hq, ha, hx .is, hy .is, hk .is, hl .is) refl;
+          is = λ j h.
+              let r : b % y + j < y = omega (arith, ha, hy .is) in
+              let inside : b + j < sizeWord wd d = in-array b y j r (elements (dimensionsAt wd d)) (sizeWord wd d) product here in (
+                inside,
+                array-is ts td S D fs fd (b + j)
+                    ∙ rw (eq-eqb m n e, lt-ltb (b + j) (sizeWord wd d) inside, ← (hl .is), ← (hy .is), same-element b y j r, in-element b y j r, hq, ha, ← (hk .is), ← (hx .is)) refl,
+              );
           onward = (
-            rw (hq, hx .is, hy .is, hk .is, hl .is)
-                (element-short b (elements (dimensionsAt wd d)) (sizeWord wd d) (sizeWord wd (baseWord wd d)) (sizeWord ws s) (sizeWord ws (baseWord ws s))
-                (element-some D wd td d fd kd) (gd .0 .product) (rw (hz .is) at h)
+            rw (hq, hx .is, hk .is)
+                (element-short b (elements (dimensionsAt wd d)) (sizeWord wd d) y (sizeWord ws s) (sizeWord ws (baseWord ws s)) some product here
                 (gs .0 .product ∙ ap (λ (c : ℕ). c * sizeWord ws (baseWord ws s)) (sym (hm S ts fs ks) ∙ e ∙ hn D td fd kd)) (gs .0 .most)),
+            rw (ha, ← (hy .is)) (mod-lt b some),
             rw (hk .is) (gs .1),
             rw (hl .is) (gd .1),
           );
         }
 
 -- the code's product fits, whatever the table says
-pub place-fits : (b y : ℕ) {z q x u v : ℕ} → b < z → Reads u z → Reads v x → q ≡ b / y → Fits w64 (q * x)
+pub place-fits : (b y : ℕ) {z q x u v : ℕ} → b < u → Reads u z → Reads v x → q ≡ b / y → Fits w64 (q * x)
 place-fits b y {z} {q} {x} h hz hx e =
-    let q-low : q < 4294967296 = omega (arith, div-le-self b y, hz .small) in
+    let q-low : q < 4294967296 = omega (arith, div-le-self b y, hz .small, hz .is) in
     record { fits = lt-of-le-of-lt (mul-le-mul (le-pred-of-lt q-low) (le-pred-of-lt (hx .small))) (lit< tt) }
 
-pub ruleset array-laws = (needs, place-fits, array-counts, array-past, array-on)
+pub ruleset array-laws = (needs, place-fits, array-counts, array-on)
 
 -- ---- by kinds
 
@@ -166,38 +216,46 @@ not-leaf (array z ds T) y h = refl
 pub kind-known : (w : List ℕ) (i : ℕ) {kind k : ℕ} → kind ≡ kindAt w i → kind ≡ k → kindAt w i ≡ k
 kind-known w i hk e = sym hk ∙ e
 
-module _ (ws ts : List ℕ) (s : ℕ) (wd td : List ℕ) (d b : ℕ) {from to : ℕ} (hs : from ≡ kindAt ws s) (hd : to ≡ kindAt wd d) where
-  pub off-compound : to ≡ 3 → (from ≡ 3 → ⊥) → Leads ws ts s wd td d b Off
-  unfolding matchAt
-  off-compound h k S D fs fd =
-      record {
-        is = rw (compound-node D wd td d (sym hd ∙ h), not-compound (node S ws ts s) (λ e. k (hs ∙ sym (tree-kind S ws ts s) ∙ e))) refl;
-        onward = tt;
-      }
+module _ (ws ts : List ℕ) (s : ℕ) (wd td : List ℕ) (d b : ℕ) (here : b < sizeWord wd d) {from to z : ℕ} (hs : from ≡ kindAt ws s) (hd : to ≡ kindAt wd d)
+    (hz : Reads (sizeWord wd d) z) where
+  -- no byte of the destination type has a match
+  off : ((S D : ℕ → Datatype) (c : ℕ) → b ≤ c → matchAt (node S ws ts s) (node D wd td d) c ≡ unmatched) → Leads ws ts s wd td d b (Off z)
+  off all S D fs fd = record { is = λ j l. (omega (arith, hz .is), all S D (b + j) (omega arith)); onward = omega (arith, hz .is) }
 
-  pub off-array : to ≡ 4 → (from ≡ 4 → ⊥) → Leads ws ts s wd td d b Off
+  pub off-compound : to ≡ 3 → (from ≡ 3 → ⊥) → Leads ws ts s wd td d b (Off z)
   unfolding matchAt
-  off-array h k S D fs fd =
-      record {
-        is = rw (array-node D wd td d (sym hd ∙ h), not-array (node S ws ts s) (dimensionsAt wd d) (λ e. k (hs ∙ sym (tree-kind S ws ts s) ∙ e))) refl;
-        onward = tt;
-      }
+  off-compound h k = off (λ S D c l.
+      rw (compound-node D wd td d (sym hd ∙ h), not-compound (node S ws ts s) (λ e. k (hs ∙ sym (tree-kind S ws ts s) ∙ e))) refl)
+
+  pub off-array : to ≡ 4 → (from ≡ 4 → ⊥) → Leads ws ts s wd td d b (Off z)
+  unfolding matchAt
+  off-array h k = off (λ S D c l.
+      rw (array-node D wd td d (sym hd ∙ h), not-array (node S ws ts s) (dimensionsAt wd d) (λ e. k (hs ∙ sym (tree-kind S ws ts s) ∙ e))) refl)
 
   module _ (h : to ≡ 3 → ⊥) (k : to ≡ 4 → ⊥) where
-    to-leaf : (S D : ℕ → Datatype) → matchAt (node S ws ts s) (node D wd td d) b ≡ cond (eqb b 0) (matchLeaf (node S ws ts s) (leafOfType wd td d)) unmatched
+    to-leaf : (S D : ℕ → Datatype) (c : ℕ) → matchAt (node S ws ts s) (node D wd td d) c ≡ cond (eqb c 0) (matchLeaf (node S ws ts s) (leafOfType wd td d)) unmatched
     unfolding matchAt
-    to-leaf S D = rw (leaf-node D wd td d (λ e. h (hd ∙ e)) (λ e. k (hd ∙ e))) refl
+    to-leaf S D c = rw (leaf-node D wd td d (λ e. h (hd ∙ e)) (λ e. k (hd ∙ e))) refl
 
-    pub off-late : (b ≡ 0 → ⊥) → Leads ws ts s wd td d b Off
-    off-late l S D fs fd = record { is = to-leaf S D ∙ rw (ne-eqb b 0 l) refl; onward = tt }
+    pub off-late : (b ≡ 0 → ⊥) → Leads ws ts s wd td d b (Off z)
+    off-late l = off (λ S D c m. to-leaf S D c ∙ rw (ne-eqb c 0 (λ e. l (omega arith))) refl)
 
-    pub off-inner : b ≡ 0 → 3 ≤ from → Leads ws ts s wd td d b Off
-    off-inner z l S D fs fd =
-        record { is = to-leaf S D ∙ rw (eq-eqb b 0 z) (not-leaf (node S ws ts s) (leafOfType wd td d) (omega (arith, tree-kind S ws ts s))); onward = tt }
+    pub off-inner : 3 ≤ from → Leads ws ts s wd td d b (Off z)
+    off-inner l = off (λ S D c m. to-leaf S D c ∙ none (not-leaf (node S ws ts s) (leafOfType wd td d) (omega (arith, tree-kind S ws ts s))) (eqb c 0))
+      where
+        none : {m : Match} → m ≡ unmatched → (t : Bool) → cond t m unmatched ≡ unmatched
+        none e true = e
+        none e false = refl
 
     pub on-leaves : b ≡ 0 → from < 3 → Leads ws ts s wd td d b Same
-    on-leaves z l S D fs fd =
-        record { is = to-leaf S D ∙ rw (eq-eqb b 0 z, leaf-node S ws ts s (λ e. omega arith) (λ e. omega arith)) refl; onward = tt }
+    on-leaves start l S D fs fd =
+        record {
+          is = λ j e. (
+            omega arith,
+            rw (start, e) (to-leaf S D 0 ∙ rw (leaf-node S ws ts s (λ e. omega arith) (λ e. omega arith)) refl),
+          );
+          onward = tt;
+        }
 
 pub ruleset walk-laws = (needs, kind-known, off-compound, off-array, off-late, off-inner, on-leaves)
 
@@ -211,52 +269,94 @@ further-further : (p q : ℕ) (m : Match) → further p (further q m) ≡ furthe
 further-further p q unmatched = refl
 further-further p q (matched a x y) = rw add-assoc
 
-module _ (from f : ℕ) (ws ts : List ℕ) (s : ℕ) (wd td : List ℕ) (d b : ℕ) {M : Match} {r : Walk}
-    (inv : M ≡ further from (matchAt (decode f ws ts s) (decode f wd td d) b)) (fs : WellFormed (decode f ws ts s)) (fd : WellFormed (decode f wd td d))
-    (h : 0 < f) (step : Leads ws ts s wd td d b r) where
-  led : Led (decode (f - 1) ws ts) (decode (f - 1) wd td) (leafOfType ws ts s) (leafOfType wd td d) (matchAt (decode f ws ts s) (decode f wd td d) b) r
-  led =
-      rw (decode-step f ws ts s h, decode-step f wd td d h)
-      (step (decode (f - 1) ws ts) (decode (f - 1) wd td) (whole f ws ts s h fs) (whole f wd td d h fd))
-
-  turned : {v : Walk} → r ≡ v → M ≡ further from (matchAfter (decode (f - 1) ws ts) (decode (f - 1) wd td) (leafOfType ws ts s) (leafOfType wd td d) v)
-  turned e =
-      inv ∙ ap (further from) (led .is ∙ ap (matchAfter (decode (f - 1) ws ts) (decode (f - 1) wd td) (leafOfType ws ts s) (leafOfType wd td d)) e)
-
-  pub turn-on : {q k l a : ℕ} → r ≡ On q k l a → M ≡ further (from + q) (matchAt (decode (f - 1) ws ts k) (decode (f - 1) wd td l) a)
-  turn-on {q} {k} {l} {a} e = turned e ∙ further-further from q (matchAt (decode (f - 1) ws ts k) (decode (f - 1) wd td l) a)
-
-  pub turn-formed : {q k l a : ℕ} → r ≡ On q k l a → (q ≤ 4096) × WellFormed (decode (f - 1) ws ts k) × WellFormed (decode (f - 1) wd td l)
-  turn-formed e = rw e at (led .onward)
-
-  pub turn-same : r ≡ Same → M ≡ matched from (leafOfType ws ts s) (leafOfType wd td d)
-  turn-same e = turned e ∙ rw add-zero
-
-  pub turn-off : r ≡ Off → M ≡ unmatched
-  turn-off e = turned e
-
-pub turn-out : (from f : ℕ) (ws ts : List ℕ) (s : ℕ) (wd td : List ℕ) (d b : ℕ) {M : Match} → M ≡ further from (matchAt (decode f ws ts s) (decode f wd td d) b) → f ≤ 0 → M ≡ unmatched
+too-deep : (f : ℕ) (ws ts : List ℕ) (s : ℕ) (wd td : List ℕ) (d c : ℕ) → f ≤ 0 → matchAt (decode f ws ts s) (decode f wd td d) c ≡ unmatched
 unfolding decode matchAt
-turn-out from zero ws ts s wd td d b inv h = inv
-turn-out from (suc f) ws ts s wd td d b inv h = absurd (not-suc-le-zero h)
+too-deep zero ws ts s wd td d c h = refl
+too-deep (suc f) ws ts s wd td d c h = absurd (not-suc-le-zero h)
+
+-- the matches at byte b of the types i and k and behind it are those at byte `at` of the types s and d, `from` bytes further in the source
+pub record Reached (ws ts : List ℕ) (i : ℕ) (wd td : List ℕ) (k b s d at from f : ℕ) : Type 0 where
+  pub is : (j : ℕ) → at + j < sizeWord wd d
+      → (b + j < size (typeAt wd td k)) × (matchAt (typeAt ws ts i) (typeAt wd td k) (b + j) ≡ further from (matchAt (decode f ws ts s) (decode f wd td d) (at + j)))
+  pub inside : at < sizeWord wd d
+  pub source : WellFormed (decode f ws ts s)
+  pub destination : WellFormed (decode f wd td d)
 
 module _ (ws ts : List ℕ) (i : ℕ) (wd td : List ℕ) (k b : ℕ) where
-  pub not-found : matchAt (typeAt ws ts i) (typeAt wd td k) b ≡ unmatched → MatchFound ws ts i wd td k b Unmatched
-  not-found e = record { is = sym e; small = tt }
-
-  pub is-found : (f : ℕ) {a s d : ℕ} → WellFormed (typeAt ws ts i) × WellFormed (typeAt wd td k)
-      → matchAt (typeAt ws ts i) (typeAt wd td k) b ≡ matched a (leafOfType ws ts s) (leafOfType wd td d)
-      → WellFormed (decode f ws ts s) → WellFormed (decode f wd td d) → MatchFound ws ts i wd td k b (Matched a s d)
-  is-found f {a} {s} {d} formed e fs fd =
+  pub reached-start : WellFormed (typeAt ws ts i) → WellFormed (typeAt wd td k) → b < size (typeAt wd td k) → Reached ws ts i wd td k b i k b 0 64
+  reached-start fs fd h =
       record {
-        is = sym e;
-        small = (
-          omega (
-            arith,
-            in-range (typeAt ws ts i) (typeAt wd td k) (formed .0) (formed .1) b a (leafOfType ws ts s) (leafOfType wd td d) e,
-            size-most (typeAt ws ts i) (formed .0),
-          ),
-          type-low f ws ts s fs,
-          type-low f wd td d fd,
-        );
+        is = λ j l. (omega (arith, size-decode 64 wd td k), sym (further-zero (matchAt (typeAt ws ts i) (typeAt wd td k) (b + j))));
+        inside = omega (arith, size-decode 64 wd td k);
+        source = fs;
+        destination = fd;
       }
+
+  module _ {s d at from f : ℕ} {r : Walk} (reached : Reached ws ts i wd td k b s d at from f) (h : 0 < f) (step : Leads ws ts s wd td d at r) where
+    led : Led (decode (f - 1) ws ts) (decode (f - 1) wd td) (leafOfType ws ts s) (leafOfType wd td d) (matchAt (decode f ws ts s) (decode f wd td d)) wd (sizeWord wd d) at r
+    led =
+        rw (decode-step f ws ts s h, decode-step f wd td d h)
+        (step (decode (f - 1) ws ts) (decode (f - 1) wd td) (whole f ws ts s h (reached .source)) (whole f wd td d h (reached .destination)))
+
+    turned : (j : ℕ) → Reaches wd at r j
+        → (b + j < size (typeAt wd td k))
+        × (matchAt (typeAt ws ts i) (typeAt wd td k) (b + j)
+        ≡ further from (matchAfter (decode (f - 1) ws ts) (decode (f - 1) wd td) (leafOfType ws ts s) (leafOfType wd td d) r j))
+    turned j l =
+        let here = led .is j l in
+        let above = reached .is j (here .0) in
+        (above .0, above .1 ∙ ap (further from) (here .1))
+
+    pub turn-few : {q m n a : ℕ} → r ≡ On q m n a → q ≤ 4096
+    turn-few e = (rw e at (led .onward)) .0
+
+    pub turn-on : {q m n a : ℕ} → r ≡ On q m n a → Reached ws ts i wd td k b m n a (from + q) (f - 1)
+    turn-on {q} {m} {n} {a} e =
+        let on = rw e at (led .onward) in
+        record {
+          is = λ j l.
+              let here = (rw e at turned) j l in
+              (here .0, here .1 ∙ further-further from q (matchAt (decode (f - 1) ws ts m) (decode (f - 1) wd td n) (a + j)));
+          inside = on .1;
+          source = on .2;
+          destination = on .3;
+        }
+
+    pub turn-same : WellFormed (typeAt ws ts i) → WellFormed (typeAt wd td k) → r ≡ Same → MatchFound ws ts i wd td k b (Matched from s d)
+    turn-same fs fd e =
+        let is : matchAt (typeAt ws ts i) (typeAt wd td k) b ≡ matched from (leafOfType ws ts s) (leafOfType wd td d) =
+        rw (add-zero b, add-zero from) at ((rw e at turned) 0 refl .1) in
+        record {
+          is = sym is;
+          small = (
+            omega (
+              arith,
+              in-range (typeAt ws ts i) (typeAt wd td k) fs fd b from (leafOfType ws ts s) (leafOfType wd td d) is .1,
+              size-some (leaf (leafOfType ws ts s))
+                  (match-formed (typeAt ws ts i) (typeAt wd td k) fs fd b from (leafOfType ws ts s) (leafOfType wd td d) is .0),
+              size-most (typeAt ws ts i) fs,
+            ),
+            type-low f ws ts s (reached .source),
+            type-low f wd td d (reached .destination),
+          );
+          behind = tt;
+        }
+
+    pub turn-past : {e : ℕ} → r ≡ Off e → at < e
+    turn-past e = rw e at (led .onward)
+
+    pub turn-off : {e : ℕ} → r ≡ Off e → MatchFound ws ts i wd td k b (Unmatched (e - at))
+    turn-off {e} q =
+        let past : at < e = turn-past q in
+        let none : (j : ℕ) → j < e - at → (b + j < size (typeAt wd td k)) × (matchAt (typeAt ws ts i) (typeAt wd td k) (b + j) ≡ unmatched) =
+        λ j l. (rw q at turned) j (omega arith) in
+        record { is = sym (rw add-zero at (none 0 (omega arith) .1)); small = tt; behind = record { some = omega arith; each = none } }
+
+  pub turn-out : {s d at from f : ℕ} → Reached ws ts i wd td k b s d at from f → f ≤ 0 → MatchFound ws ts i wd td k b (Unmatched 1)
+  turn-out {s} {d} {at} {from} {f} reached h =
+      record { is = sym (rw add-zero at (none 0 (omega arith) .1)); small = tt; behind = record { some = omega arith; each = none } }
+    where
+      none : (j : ℕ) → j < 1 → (b + j < size (typeAt wd td k)) × (matchAt (typeAt ws ts i) (typeAt wd td k) (b + j) ≡ unmatched)
+      none j l =
+          let above = reached .is j (omega (arith, reached .inside)) in
+          (above .0, above .1 ∙ ap (further from) (too-deep f ws ts s wd td d (at + j) h))

@@ -3,9 +3,9 @@ use mathlib.Core.Path.{_≡_}
 use mathlib.Core.Bool.{cond}
 use mathlib.Core.List.{List}
 use mathlib.Core.Option.{Option, none, some}
-use Prim.Native.Nat.{ℕ, _≤_, _<_}
+use Prim.Native.Nat.{ℕ, _+_, _≤_, _<_}
 use lib.Dec.{eqb}
-use Rattle.datatype.specs.Datatype.{Leaf}
+use Rattle.datatype.specs.Datatype.{Leaf, Datatype, size}
 use Rattle.datatype.specs.Datatype.Leaf.{atomic, enumeration}
 use Rattle.datatype.specs.Matches.{Match, matchAt}
 use Rattle.datatype.specs.Matches.Match.{unmatched, matched}
@@ -22,14 +22,24 @@ leafFound w t Missing = none
 
 abbrev pub matchOf : List ℕ → List ℕ → List ℕ → List ℕ → Pair → Match
 matchOf ws ts wd td (Matched a s d) = matched a (leafOfType ws ts s) (leafOfType wd td d)
-matchOf ws ts wd td Unmatched = unmatched
+matchOf ws ts wd td (Unmatched n) = unmatched
 
 -- a byte of a record, and two types of a table
 abbrev pub Small : Pair → Type 0
-Small (Matched a s d) = (a ≤ 4096) × (s < 64) × (d < 64)
-Small Unmatched = Unit {0}
+Small (Matched a s d) = (a < 4096) × (s < 64) × (d < 64)
+Small (Unmatched n) = Unit {0}
+
+-- at n bytes of D, from byte b on, no leaf is matched
+pub record NoneMatched (S D : Datatype) (b n : ℕ) : Type 0 where
+  pub some : 1 ≤ n
+  pub each : (j : ℕ) → j < n → (b + j < size D) × (matchAt S D (b + j) ≡ unmatched)
+
+abbrev pub Behind : Datatype → Datatype → ℕ → Pair → Type 0
+Behind S D b (Matched a s d) = Unit {0}
+Behind S D b (Unmatched n) = NoneMatched S D b n
 
 -- r is the match at byte b
 pub record MatchFound (ws ts : List ℕ) (i : ℕ) (wd td : List ℕ) (k b : ℕ) (r : Pair) : Type 0 where
   pub is : matchOf ws ts wd td r ≡ matchAt (typeAt ws ts i) (typeAt wd td k) b
   pub small : Small r
+  pub behind : Behind (typeAt ws ts i) (typeAt wd td k) b r

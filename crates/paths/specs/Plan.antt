@@ -2,13 +2,14 @@
 use mathlib.Core.Path.{_≡_}
 use mathlib.Core.List.{List, [], _∷_, _++_}
 use Prim.Native.Nat.{ℕ, zero, suc, _+_, _*_, _≤_}
-use lib.ListN.{getD, length, set}
+use lib.ListN.{length, set}
 use Rattle.datatype.specs.Datatype.{size}
 use Rattle.datatype.specs.Matches.{Match, onMatch}
 use Rattle.records.specs.Plan.{Entry, planOf}
 use Rattle.plans.specs.PlanWords.{entriesAt}
-use Rattle.table.specs.Table.{typeAt}
+use Rattle.table.specs.Table.{sizeWord, typeAt}
 use Rattle.paths.specs.declared.Pair.{Pair}
+use Rattle.paths.specs.declared.Pair.the-variants.{Matched, Unmatched}
 use Rattle.paths.specs.Leaf.{matchOf}
 
 -- the plan p, of r entries, from type i of the table ws to type k of the table wd; it was `before` at first
@@ -27,6 +28,11 @@ entryPut plan n to from s d = set (set plan (2 * n) (to * 4096 + from)) (2 * n +
 -- the entry of a match at byte b, if there is one
 abbrev pub entryOf : ℕ → Match → List Entry
 entryOf b m = onMatch (λ a x y. record { to = b; from = a; source = x; destination = y } ∷ []) [] m
+
+-- how many bytes lie from byte b, where the match is m, to the next byte that may have one
+abbrev pub stepOf : List ℕ → Pair → ℕ
+stepOf wd (Matched a s d) = sizeWord wd d
+stepOf wd (Unmatched n) = n
 
 -- the plan p has r entries: the n of the plan `before`, and that of the match m at byte b
 pub record Added (before : List ℕ) (n b : ℕ) (m : Pair) (p : List ℕ) (r : ℕ) : Type 0 where

@@ -1,8 +1,9 @@
 -- What the functions inside the crate promise, a step of a walk each. No public contract cites this file.
-use Prim.Native.Nat.{ℕ, zero, suc, _+_, _-_, _≤_}
+use Prim.Native.Nat.{ℕ, zero, suc, _+_, _-_, _≤_, _<_}
 use mathlib.Core.Path.{_≡_}
 use mathlib.Core.List.{List}
 use mathlib.Core.Bool.{Bool, true, cond}
+use mathlib.Core.Logic.{_⊎_}
 use mathlib.Core.Option.{Option, none, some}
 use lib.Dec.{eqb}
 use Rattle.datatype.specs.Datatype.{Leaf, Datatype, Members, size, elements}
@@ -57,6 +58,22 @@ unfoldable pub rowOver : List ℕ → ℕ → ℕ → ℕ → Found
 rowOver w first zero b = Missing
 rowOver w first (suc n) b = cond (covers w (first + n) b) (At (first + n)) (rowOver w first n b)
 
+-- where the member in row j ends
+abbrev pub rowEnd : List ℕ → ℕ → ℕ
+rowEnd w j = offsetWord w j + sizeWord w (memberTypeWord w j)
+
+-- r is the lower one of o and end, if o lies behind byte b
+pub record Nearer (b o end r : ℕ) : Type 0 where
+  pub behind : b < r
+  pub inside : r ≤ end
+  pub clear : (o ≤ b) ⊎ (r ≤ o)
+
+-- from behind byte b up to byte r, which is not past `end`, no member starts of rows `from` up to n, counted from first on
+pub record GapEnd (w : List ℕ) (first from n b end r : ℕ) : Type 0 where
+  pub behind : b < r
+  pub inside : r ≤ end
+  pub clear : (i : ℕ) → from ≤ i → i < n → (offsetWord w (first + i) ≤ b) ⊎ (r ≤ offsetWord w (first + i))
+
 -- the members of type i, if that is a compound
 abbrev pub membersOfType : (ℕ → Datatype) → List ℕ → List ℕ → ℕ → Members
 membersOfType D w t i = membersAt D w t (firstWord w i) (rowsWord w i)
@@ -74,27 +91,33 @@ LeafStep w i b r = (D : ℕ → Datatype) (t : List ℕ) → Sized D w → leafA
 
 -- ---- matches
 
--- the match that a walk leads to; x and y are the leaves here
-abbrev pub matchAfter : (ℕ → Datatype) → (ℕ → Datatype) → Leaf → Leaf → Walk → Match
-matchAfter S D x y (On from k l b) = further from (matchAt (S k) (D l) b)
-matchAfter S D x y Same = matched 0 x y
-matchAfter S D x y Off = unmatched
+-- how far a walk from byte b says what is matched: j bytes behind it
+abbrev pub Reaches : List ℕ → ℕ → Walk → ℕ → Type 0
+Reaches wd b (On from k l a) j = a + j < sizeWord wd l
+Reaches wd b Same j = j ≡ 0
+Reaches wd b (Off e) j = b + j < e
 
--- it leads on by few bytes and to well-formed types
-abbrev pub Onward : (ℕ → Datatype) → (ℕ → Datatype) → Walk → Type 0
-Onward S D (On from k l b) = (from ≤ 4096) × WellFormed (S k) × WellFormed (D l)
-Onward S D Same = Unit {0}
-Onward S D Off = Unit {0}
+-- the match there that it leads to; x and y are the leaves here
+abbrev pub matchAfter : (ℕ → Datatype) → (ℕ → Datatype) → Leaf → Leaf → Walk → ℕ → Match
+matchAfter S D x y (On from k l a) j = further from (matchAt (S k) (D l) (a + j))
+matchAfter S D x y Same j = matched 0 x y
+matchAfter S D x y (Off e) j = unmatched
 
--- the walk r leads to the match m
-pub record Led (S D : ℕ → Datatype) (x y : Leaf) (m : Match) (r : Walk) : Type 0 where
-  pub is : m ≡ matchAfter S D x y r
-  pub onward : Onward S D r
+-- it leads on by few bytes, to a byte of well-formed types, or past byte b
+abbrev pub Onward : (ℕ → Datatype) → (ℕ → Datatype) → List ℕ → ℕ → Walk → Type 0
+Onward S D wd b (On from k l a) = (from ≤ 4096) × (a < sizeWord wd l) × WellFormed (S k) × WellFormed (D l)
+Onward S D wd b Same = Unit {0}
+Onward S D wd b (Off e) = b < e
+
+-- the walk r from byte b leads to the matches m, inside z bytes
+pub record Led (S D : ℕ → Datatype) (x y : Leaf) (m : ℕ → Match) (wd : List ℕ) (z b : ℕ) (r : Walk) : Type 0 where
+  pub is : (j : ℕ) → Reaches wd b r j → (b + j < z) × (m (b + j) ≡ matchAfter S D x y r j)
+  pub onward : Onward S D wd b r
 
 abbrev pub Leads : List ℕ → List ℕ → ℕ → List ℕ → List ℕ → ℕ → ℕ → Walk → Type 0
 Leads ws ts s wd td d b r =
     (S D : ℕ → Datatype) → Whole S ws ts s → Whole D wd td d
-    → Led S D (leafOfType ws ts s) (leafOfType wd td d) (matchAt (node S ws ts s) (node D wd td d) b) r
+    → Led S D (leafOfType ws ts s) (leafOfType wd td d) (matchAt (node S ws ts s) (node D wd td d)) wd (sizeWord wd d) b r
 
 -- the match, in the members ss, of the leaf at byte b that lies in the destination's row j
 abbrev pub matchNamed : (ℕ → Datatype) → Members → List ℕ → List ℕ → ℕ → ℕ → Match
@@ -104,7 +127,7 @@ matchNamed D ss wd td j b =
 abbrev pub LeadsIn : List ℕ → List ℕ → ℕ → List ℕ → List ℕ → ℕ → ℕ → Walk → Type 0
 LeadsIn ws ts s wd td j b r =
     (S D : ℕ → Datatype) (x y : Leaf) → Whole S ws ts s → WellFormed (D (memberTypeWord wd j))
-    → Led S D x y (matchNamed D (membersOfType S ws ts s) wd td j b) r
+    → Led S D x y (matchNamed D (membersOfType S ws ts s) wd td j) wd (rowEnd wd j) b r
 
 -- ---- paths
 

@@ -4,7 +4,7 @@ ghost use Prim.Native.Nat.{_<_};
 ghost use Rattle.datatype.specs.Leaves.{within};
 ghost use Rattle.table.specs.Table.{nameAt, firstWord, rowsWord};
 ghost use Rattle.table.specs.Rows.{rowNamed};
-ghost use Rattle.paths.specs.Steps.{covers, rowOver, kindAt, Counts};
+ghost use Rattle.paths.specs.Steps.{covers, rowOver, rowEnd, Nearer, GapEnd, kindAt, Counts};
 use crate::numbers::quotient;
 use row_lookup::row_named;
 use table::BASE;
@@ -54,6 +54,43 @@ pub fn row_over(w: &[u32], first: usize, n: usize, b: usize) -> Found
         }
     }
     Found::Missing
+}
+
+// Where the member in row j ends.
+pub fn row_end(w: &[u32], j: usize) -> usize
+    ensures { λ r. ⌜ r ≡ rowEnd (now (w .entry)) j ⌝ }
+{
+    let offset = row_word(w, j, MEMBER_OFFSET);
+    let k = row_word(w, j, MEMBER_TYPE);
+    offset + type_word(w, k, SIZE)
+}
+
+// The lower one of o and end, where o lies behind byte b.
+fn nearer(b: usize, o: usize, end: usize) -> usize
+    requires { ⌜ b < end ⌝ }
+    ensures { λ r. ⌜ Nearer b o end r ⌝ }
+{
+    if b < o {
+        if o < end {
+            return o;
+        }
+    }
+    end
+}
+
+// Of the n rows from first on, where the next member behind byte b starts; `end` where none does before it.
+pub fn gap_end(w: &[u32], first: usize, n: usize, b: usize, end: usize) -> usize
+    requires { ⌜ (first < 4294967296) × (n < 4294967296) × (b < end) ⌝ }
+    ensures { λ r. ⌜ GapEnd (now (w .entry)) first 0 n b end r ⌝ }
+{
+    let mut left = n;
+    let mut at = end;
+    while 0 < left {
+        left -= 1;
+        let o = row_word(w, first + left, MEMBER_OFFSET);
+        at = nearer(b, o, at);
+    }
+    at
 }
 
 // The row of the source type s that has the name of the destination's row j.

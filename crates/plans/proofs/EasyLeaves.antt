@@ -1,128 +1,92 @@
--- An easy leaf raises nothing, and its words make of its number what the definition does. Assumes nothing.
-use mathlib.Core.Path.{_≡_, refl, sym, ap, _∙_}
-use mathlib.Core.Bool.{Bool, true, false, cond, _&&_}
+-- What the route of an entry tells of its leaf: what the ways of converting it ask for, and what they give. Assumes nothing.
+use mathlib.Core.Path.{_≡_, refl, sym, ap, subst, _∙_}
 use mathlib.Core.List.{List}
-use Prim.Native.Nat.{ℕ, zero, suc, _+_, _*_, _≤_, _<_}
+use Prim.Native.Nat.{ℕ, _+_, _-_, _≤_, _<_}
 use native.Mathlib.Nat.{mod-lt}
 use native.Mathlib.Omega.{arith}
-use lib.ListN.{length, getD, replicate}
+use lib.ListN.{getD, length}
 use lib.Pow.{pow-pos}
-use borrow.Author.Count.{below-more}
 use Rattle.layout.specs.declared.Layout.{Layout}
-use Rattle.layout.specs.Layout.{valid}
+use Rattle.layout.specs.Layout.{Valid}
 use Rattle.number.specs.declared.Fitted.{Fitted}
 use Rattle.number.specs.Number.{numberAt, fitted}
 use Rattle.number.specs.Place.{rawAt, stored}
 use Rattle.table.specs.Table.{classWord, layoutAt}
 use Rattle.table.specs.Words.{Reads}
-use Rattle.table.specs.Records.{orderCode}
-use Rattle.easy.specs.Easy.{easy, wordsOf, easyWords, withWords}
+use Rattle.entry_code.specs.Code.{routeIn}
 use Rattle.easy.specs.Words.{EasyAt}
-use Rattle.easy.proofs.Easy.{number, order-small}
-use Rattle.easy.proofs.Words.{words-length, words-below, words-at, easy-stands, easy-kept}
-use Rattle.plans.specs.PlanWords.{planWord, easyPlace, enumWords, EasyEntry, Pair, pairBecomes}
-use Rattle.plans.specs.PlanEntries.{EntryPut, EntriesPut, EntryReady}
+use Rattle.easy.proofs.Easy.{number}
+use Rattle.plans.specs.PlanWords.{wordsPlace, Pair, pairBecomes}
+use Rattle.plans.specs.PlanEntries.{EntryReady}
 use Rattle.plans.specs.declared.PlanEntry.{PlanEntry}
-use Rattle.plans.specs.LeafSteps.{EnumHere}
-use Rattle.plans.proofs.LeafSteps.{leaf-layout, leaf-plain}
-use Rattle.plans.proofs.EnumWords.{enum-stands, enum-kept}
+use Rattle.plans.specs.LeafSteps.{EnumReady, EnumHere}
+use Rattle.plans.proofs.LeafSteps.{number-becomes, number-stored, pair-valid}
 
-module _ (s d : ℕ) (ws wd to : List ℕ) (i : ℕ) (e : EasyEntry to i ws wd s d) {o : ℕ} (ro : Reads (getD to (easyPlace i) 0) o) (some : o ≡ 0 → ⊥) (low : o < 3) where
-  here : (classWord wd d ≡ 2 → ⊥) × EasyAt (layoutAt ws s) (layoutAt wd d) to (easyPlace i)
-  here = e .easy (λ z. some (ro .is ∙ z)) (rw (← (ro .is)) low)
+-- what the leaf of a pair became: the kind, and the bytes that were dst
+abbrev Became : ℕ → ℕ → List ℕ → List ℕ → List ℕ → ℕ → ℕ → ℕ → List ℕ → List ℕ → List ℕ → ℕ → Type 0
+Became s d ws wd words k a b src dst out kind =
+    (p : Pair s d ws wd words k) → (kind ≡ pairBecomes p a src .kind) × (out ≡ stored (layoutAt wd d) b (pairBecomes p a src .raw) dst)
 
-  pub easy-at : EasyAt (layoutAt ws s) (layoutAt wd d) to (easyPlace i)
-  easy-at = here .1
+-- entry i, which is e; its words begin at word k, the first of them is w, and o is its route
+module _ {n m : ℕ} {e : PlanEntry} {i : ℕ} {ws wd words : List ℕ} (h : EntryReady n m e i ws wd words)
+    {k w o : ℕ} (here : k ≡ wordsPlace i) (first : Reads (getD words k 0) w) (ro : (o ≡ routeIn w) × (o < 8)) where
+  pub route-is : routeIn (getD words (wordsPlace i) 0) ≡ o
+  route-is = rw (← here, ← (first .is)) (sym (ro .0))
 
-  module _ (p : Pair s d ws wd to) (a : ℕ) (src : List ℕ) where
-    as-number : pairBecomes p a src ≡ fitted (layoutAt wd d) (numberAt (layoutAt ws s) a src)
-    as-number = rw (leaf-plain wd (p .destinationText) d (here .0), leaf-layout ws (p .sourceText) s)
+  not-enum : o < 3 → classWord wd (e .destination) ≡ 2 → ⊥
+  not-enum low = h .pair .entry .plain (rw route-is low)
 
-    pub easy-kind : 0 ≡ pairBecomes p a src .kind
-    easy-kind =
-        let l : Layout = layoutAt ws s in
-        ap (λ (f : Fitted). f .kind) (number l (layoutAt wd d) (here .1 .is) (here .1 .valid) (rawAt l a src) (mod-lt _ (pow-pos (l .precision))) .0) ∙ sym (ap (λ (f : Fitted). f .kind) as-number)
+  easy-here : (o ≡ 0 → ⊥) → o < 3 → EasyAt (layoutAt ws (e .source)) (layoutAt wd (e .destination)) words (wordsPlace i)
+  easy-here some low = h .pair .entry .easy (rw route-is (omega arith)) (rw route-is low)
 
-    pub easy-stored : (b : ℕ) (dst : List ℕ) {out : List ℕ} → out ≡ stored (layoutAt wd d) b (fitted (layoutAt wd d) (numberAt (layoutAt ws s) a src) .raw) dst
-        → out ≡ stored (layoutAt wd d) b (pairBecomes p a src .raw) dst
-    easy-stored b dst h = h ∙ ap (λ (f : Fitted). stored (layoutAt wd d) b (f .raw) dst) (sym as-number)
+  -- an easy pair
+  pub easy-at : (o ≡ 0 → ⊥) → o < 3 → EasyAt (layoutAt ws (e .source)) (layoutAt wd (e .destination)) words k
+  easy-at some low = rw here (easy-here some low)
 
--- an entry that has the words of small enums
-pub enum-here : (n m : ℕ) (e : PlanEntry) (i : ℕ) (ws wd to : List ℕ) → EntryReady n m e i ws wd to → {o : ℕ} → Reads (getD to (easyPlace i) 0) o → 3 ≤ o → e .from + 8 ≤ n
-    → EnumHere n m (e .to) (e .from) (e .source) (e .destination) ws wd to (easyPlace i)
-enum-here n m e i ws wd to h ro high room =
-    let g = h .easy .enum (rw (← (ro .is)) high) in
-    record { pair = h .pair; read = room; write = h .write; words = h .words; class = g .0; at = g .1 }
+  pub words-room : k + 4 ≤ length words
+  words-room = rw here (h .room)
 
--- ---- the words of an entry are put
+  module _ (some : o ≡ 0 → ⊥) (low : o < 3) (src : List ℕ) where
+    pub easy-kind : (p : Pair (e .source) (e .destination) ws wd words (wordsPlace i)) → 0 ≡ pairBecomes p (e .from) src .kind
+    easy-kind p =
+        let l : Layout = layoutAt ws (e .source) in
+        let at = easy-here some low in
+        ap (λ (f : Fitted). f .kind) (number l (layoutAt wd (e .destination)) (at .is) (at .valid) (rawAt l (e .from) src) (mod-lt _ (pow-pos (l .precision))) .0)
+        ∙ ap (λ (f : Fitted). f .kind) (number-becomes p (not-enum low) (e .from) src)
 
-easy-first : (l m : Layout) (w : List ℕ) (k : ℕ) → k + 8 ≤ length w → getD (withWords w k (easyWords l m)) k 0 < 3
-easy-first l m w k room = go (valid l && (valid m && easy l m))
-  where
-    z : k + 0 ≡ k
-    z = omega arith
+    pub easy-became : (dst out : List ℕ)
+        → out ≡ stored (layoutAt wd (e .destination)) (e .to) (fitted (layoutAt wd (e .destination)) (numberAt (layoutAt ws (e .source)) (e .from) src) .raw) dst
+        → Became (e .source) (e .destination) ws wd words (wordsPlace i) (e .from) (e .to) src dst out 0
+    easy-became dst out g p =
+        (easy-kind p, g ∙ ap (λ (f : Fitted). stored (layoutAt wd (e .destination)) (e .to) (f .raw) dst) (number-becomes p (not-enum low) (e .from) src))
 
-    go : (t : Bool) → getD (withWords w k (cond t (wordsOf l m) (replicate 8 0))) k 0 < 3
-    go true =
-        let e : getD (withWords w k (wordsOf l m)) k 0 ≡ 1 + orderCode (l .order) = rw z at (words-at (wordsOf l m) w k 0 (omega arith) room) in
-        omega (arith, e, order-small (l .order))
-    go false =
-        let e : getD (withWords w k (replicate 8 0)) k 0 ≡ 0 = rw z at (words-at (replicate 8 0) w k 0 (omega arith) room) in
-        omega (arith, e)
+  -- any other number
+  pub number-kind-is : o < 3 → (src : List ℕ) {kind : ℕ} → kind ≡ fitted (layoutAt wd (e .destination)) (numberAt (layoutAt ws (e .source)) (e .from) src) .kind
+      → (p : Pair (e .source) (e .destination) ws wd words (wordsPlace i)) → kind ≡ pairBecomes p (e .from) src .kind
+  number-kind-is low src g p = g ∙ ap (λ (f : Fitted). f .kind) (number-becomes p (not-enum low) (e .from) src)
 
-pub put-plain : (to : List ℕ) (i s d : ℕ) (ws wd : List ℕ) {l m : Layout} {c : ℕ} {out : List ℕ} → easyPlace i + 8 ≤ length to → Reads (classWord wd d) c → (c ≡ 2 → ⊥)
-    → l ≡ layoutAt ws s → m ≡ layoutAt wd d → out ≡ withWords to (easyPlace i) (easyWords l m) → EntryPut to i s d ws wd out
-put-plain to i s d ws wd {l} {m} room rc not el em h =
-    rw (h, el, em) (record {
-      here =
-          record {
-            easy = λ some low. ((λ e. not (rc .is ∙ e)), easy-stands (layoutAt ws s) (layoutAt wd d) to (easyPlace i) room some);
-            enum = λ high. absurd (omega (arith, easy-first (layoutAt ws s) (layoutAt wd d) to (easyPlace i) room));
-          };
-      below = λ j low. words-below (easyWords (layoutAt ws s) (layoutAt wd d)) to (easyPlace i) j low;
-      long = words-length (easyWords (layoutAt ws s) (layoutAt wd d)) to (easyPlace i);
-    })
+  pub number-became : o < 3 → (src dst out : List ℕ) {kind : ℕ}
+      → (kind ≡ fitted (layoutAt wd (e .destination)) (numberAt (layoutAt ws (e .source)) (e .from) src) .kind)
+      × (out ≡ stored (layoutAt wd (e .destination)) (e .to) (fitted (layoutAt wd (e .destination)) (numberAt (layoutAt ws (e .source)) (e .from) src) .raw) dst)
+      → Became (e .source) (e .destination) ws wd words (wordsPlace i) (e .from) (e .to) src dst out kind
+  number-became low src dst out {kind} g = number-stored src dst out (e .from) (e .to) (e .source) (e .destination) kind ws wd words (wordsPlace i) (not-enum low) g
 
-pub put-enums : (to : List ℕ) (i s d : ℕ) (ws wd : List ℕ) {l m : Layout} {c b : ℕ} {out : List ℕ} → easyPlace i + 8 ≤ length to → Reads (classWord wd d) c → c ≡ 2
-    → Reads (classWord ws s) b → l ≡ layoutAt ws s → m ≡ layoutAt wd d → out ≡ withWords to (easyPlace i) (enumWords b l m) → EntryPut to i s d ws wd out
-put-enums to i s d ws wd {l} {m} room rc is rb el em h =
-    let at = enum-stands (classWord ws s) (layoutAt ws s) (layoutAt wd d) to (easyPlace i) room in
-    rw (h, el, em, rb .is) (record {
-      here = record { easy = λ some low. absurd (some (at .zero low)); enum = λ high. (sym (rc .is) ∙ is, at .enum high) };
-      below = λ j low. words-below (enumWords (classWord ws s) (layoutAt ws s) (layoutAt wd d)) to (easyPlace i) j low;
-      long = words-length (enumWords (classWord ws s) (layoutAt ws s) (layoutAt wd d)) to (easyPlace i);
-    })
+  -- an enum
+  pub enum-ready : 3 ≤ o → EnumReady n (e .from) (e .source) (e .destination) ws wd words k
+  enum-ready high = rw here (record { pair = h .pair; read = h .read; room = h .room; enum = rw route-is high })
 
-entry-kept : (v w : List ℕ) (j s d : ℕ) (ws wd : List ℕ) → ((q : ℕ) → q < 8 → getD v (easyPlace j + q) 0 ≡ getD w (easyPlace j + q) 0) → EasyEntry w j ws wd s d → EasyEntry v j ws wd s d
-entry-kept v w j s d ws wd same e =
-    let z : easyPlace j + 0 ≡ easyPlace j = omega arith in
-    let first : getD v (easyPlace j) 0 ≡ getD w (easyPlace j) 0 = rw z at (same 0 (omega arith)) in
-    record {
-      easy =
-          λ some low.
-          let g = e .easy (λ y. some (first ∙ y)) (omega (arith, first)) in
-          (g .0, easy-kept (layoutAt ws s) (layoutAt wd d) v w (easyPlace j) same (g .1));
-      enum =
-          λ high.
-          let g = e .enum (omega (arith, first)) in
-          (g .0, enum-kept (classWord ws s) (layoutAt ws s) (layoutAt wd d) v w (easyPlace j) same (g .1));
-    }
+  pub enum-here : 3 ≤ o → o < 5 → e .from + 8 ≤ n → EnumHere n m (e .to) (e .from) (e .source) (e .destination) ws wd words k
+  enum-here high fast room = rw here (record { pair = h .pair; read = room; write = h .write; room = h .room; enum = rw route-is high; fast = rw route-is fast })
 
-pub puts-none : (to plan : List ℕ) (ws wd : List ℕ) → EntriesPut to plan 0 ws wd to
-puts-none to plan ws wd = record { each = λ i h. absurd (omega arith); below = λ j h. refl; long = refl }
+  pub enum-kind-is : (src : List ℕ) {kind : ℕ} → ((p : Pair (e .source) (e .destination) ws wd words k) → kind ≡ pairBecomes p (e .from) src .kind)
+      → (p : Pair (e .source) (e .destination) ws wd words (wordsPlace i)) → kind ≡ pairBecomes p (e .from) src .kind
+  enum-kind-is src {kind} g = subst (λ (x : ℕ). (p : Pair (e .source) (e .destination) ws wd words x) → kind ≡ pairBecomes p (e .from) src .kind) here g
 
--- one entry more
-pub puts-more : (before plan : List ℕ) (n : ℕ) (ws wd mid after : List ℕ) → EntriesPut before plan n ws wd mid → EntryPut mid n (planWord plan n 2) (planWord plan n 3) ws wd after
-    → EntriesPut before plan (n + 1) ws wd after
-puts-more before plan n ws wd mid after many one =
-    record {
-      each =
-          below-more (λ (i : ℕ). EasyEntry after i ws wd (planWord plan i 2) (planWord plan i 3)) n
-          (λ i h. entry-kept after mid i (planWord plan i 2) (planWord plan i 3) ws wd (λ q low. one .below (easyPlace i + q) (omega arith)) (many .each i h))
-          (one .here);
-      below = λ j h. one .below j (omega arith) ∙ many .below j h;
-      long = one .long ∙ many .long;
-    }
+  pub enum-became : (src dst out : List ℕ) {kind : ℕ} → Became (e .source) (e .destination) ws wd words k (e .from) (e .to) src dst out kind
+      → Became (e .source) (e .destination) ws wd words (wordsPlace i) (e .from) (e .to) src dst out kind
+  enum-became src dst out {kind} g = subst (λ (x : ℕ). Became (e .source) (e .destination) ws wd words x (e .from) (e .to) src dst out kind) here g
 
-pub puts-all : (before plan : List ℕ) (n i : ℕ) (ws wd after : List ℕ) → n ≤ i → EntriesPut before plan i ws wd after → EntriesPut before plan n ws wd after
-puts-all before plan n i ws wd after h many = record { each = λ j low. many .each j (omega arith); below = many .below; long = many .long }
+-- the layouts of an entry are valid
+pub both-valid : {n m : ℕ} {e : PlanEntry} {i : ℕ} {ws wd words : List ℕ} → EntryReady n m e i ws wd words
+    → Valid (layoutAt ws (e .source)) × Valid (layoutAt wd (e .destination))
+both-valid h = pair-valid (h .pair)

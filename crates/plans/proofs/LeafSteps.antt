@@ -4,15 +4,14 @@ use mathlib.Core.Bool.{Bool, true, false, cond}
 use mathlib.Core.List.{List}
 use mathlib.Core.Option.{none}
 use Prim.Native.Nat.{ℕ, zero, suc, _+_, _*_, _-_, _^_, _≤_, _<_}
-use native.Mathlib.Nat.{le-refl}
+use native.Mathlib.Nat.{not-suc-le-zero}
 use native.Mathlib.Numerals.{add-one}
 use native.Mathlib.Omega.{arith}
-use lib.Dec.{eqb, ltb}
+use lib.Dec.{eqb}
 use lib.IntN.{ℤ}
 use lib.ListN.{length, getD}
-use lib.Pow.{pow-mono}
 use lib.Signed.{ltZ}
-use borrow.Author.Tests.{eq-eqb, ne-eqb, ltb-true}
+use borrow.Author.Tests.{eq-eqb, ne-eqb, le-leb, lt-leb, lt-ltb, le-ltb}
 use Rattle.layout.specs.declared.Layout.{Layout}
 use Rattle.layout.specs.Layout.{Valid}
 use Rattle.number.specs.declared.Number.{Number}
@@ -21,21 +20,23 @@ use Rattle.number.specs.declared.Fitted.{Fitted}
 use Rattle.number.specs.Number.{valued, numberAt, bitsOf, largest, smallest, fitted}
 use Rattle.number.specs.Place.{rawAt, stored}
 use Rattle.number.specs.Parts.{meaning, signedBy}
-use Rattle.datatype.specs.Datatype.{Symbol, layoutOf, same}
+use Rattle.datatype.specs.Datatype.{Symbol, layoutOf}
 use Rattle.datatype.specs.Datatype.Leaf.{atomic, enumeration}
-use Rattle.datatype.specs.Symbols.{onSome, sameNumber, numberOf}
+use Rattle.datatype.specs.Symbols.{onSome, numberOf}
 use Rattle.datatype.specs.WellFormed.{WellFormedLeaf, Symbols}
 use Rattle.datatype.proofs.Ways.{valid}
 use Rattle.table.specs.declared.Found.{Found}
 use Rattle.table.specs.declared.Found.the-variants.{At, Missing}
-use Rattle.table.specs.Table.{typeWord, rowWord, classWord, firstWord, rowsWord, flagOf, layoutAt, nameAt, valueAt, symbolsAt}
+use Rattle.table.specs.Table.{rowWord, classWord, firstWord, rowsWord, flagOf, layoutAt, nameAt, valueAt, symbolsAt}
 use Rattle.table.specs.Words.{Reads}
 use Rattle.table.specs.Rows.{rowNamed, rowNumbered, valueFound, nameFound}
 use Rattle.table.proofs.Lookups.{symbol-named, symbol-numbered}
+use Rattle.entry_code.specs.Code.{routeIn}
 use Rattle.records.specs.Leaf.{numberIn, symbols, untranslated, converted}
-use Rattle.plans.specs.PlanWords.{leafOfType, RowsWithin, rowCode, Numbers, Pair, pairBecomes}
-use Rattle.plans.specs.LeafSteps.{symbolRows, allOnes, codeBits, rowOf, foundBits, EnumReady}
 use Rattle.records.proofs.OneLeaf.{converted-lt, listed-in-range}
+use Rattle.plans.specs.PlanWords.{leafOfType, symbolRows, numberRow, rowCode, namedCode, translatedCode, spanCode, rowAlike, Pair, pairBecomes}
+use Rattle.plans.specs.LeafSteps.{allOnes, codeBits, lookedCode, EnumReady}
+use Rattle.plans.proofs.Names.{looked-named}
 
 -- ---- the words of a row
 
@@ -51,32 +52,21 @@ value-plain w j p rl rh ra e t =
     let f : flagOf (rowWord w j 2) ≡ false = rw (← (ra .is), ← e) t in
     rw (f, ← (rl .is), ← (rh .is))
 
-pub code-none : (w : List ℕ) (p : ℕ) {of code : ℕ} {r : Fitted} → Reads of code → code ≡ 0 → r ≡ allOnes p → r ≡ codeBits w p of
-code-none w p rc e h = rw (← (rc .is), e) h
+pub code-none : (w : List ℕ) (p : ℕ) {code : ℕ} {r : Fitted} → code ≡ 0 → r ≡ allOnes p → r ≡ codeBits w p code
+code-none w p e h = rw e h
 
-pub code-some : (w : List ℕ) (p : ℕ) {of code b : ℕ} → Reads of code → (code ≡ 0 → ⊥) → b ≡ bitsOf p (valueAt w (code - 1))
-    → _≡_ {A = Fitted} (record { raw = b; kind = 0 }) (codeBits w p of)
-code-some w p {code = code} rc not h =
-    let e : code ≡ suc (code - 1) = omega arith in
-    rw (← (rc .is), e) (rw h)
+pub code-some : (w : List ℕ) (p : ℕ) {code b : ℕ} → (code ≡ 0 → ⊥) → b ≡ bitsOf p (valueAt w (code - 1)) → _≡_ {A = Fitted} (record { raw = b; kind = 0 }) (codeBits w p code)
+code-some w p {code} not h = let e : code ≡ suc (code - 1) = omega arith in rw e (rw h)
 
 -- ---- how many symbols a type has
 
-pub symbols-some : (w : List ℕ) (k : ℕ) {c r : ℕ} → Reads (classWord w k) c → c ≡ 2 → Reads (rowsWord w k) r → (r ≡ symbolRows w k) × (r ≤ rowsWord w k)
+pub symbols-some : (w : List ℕ) (k : ℕ) {c r : ℕ} → Reads (classWord w k) c → c ≡ 2 → Reads (rowsWord w k) r → (r ≡ symbolRows w k) × (r < 4294967296)
 unfolding symbolRows
-symbols-some w k rc e rr = (rw (eq-eqb (classWord w k) 2 (sym (rc .is) ∙ e)) (rr .is), omega (arith, rr .is))
+symbols-some w k rc e rr = (rw (eq-eqb (classWord w k) 2 (sym (rc .is) ∙ e)) (rr .is), rr .small)
 
-pub symbols-none : (w : List ℕ) (k : ℕ) {c : ℕ} → Reads (classWord w k) c → (c ≡ 2 → ⊥) → (0 ≡ symbolRows w k) × (0 ≤ rowsWord w k)
+pub symbols-none : (w : List ℕ) (k : ℕ) {c : ℕ} → Reads (classWord w k) c → (c ≡ 2 → ⊥) → (0 ≡ symbolRows w k) × (0 < 4294967296)
 unfolding symbolRows
 symbols-none w k rc not = (rw (ne-eqb (classWord w k) 2 (λ e. not (rc .is ∙ e))), omega arith)
-
-symbols-most : (w : List ℕ) (k : ℕ) → symbolRows w k ≤ rowsWord w k
-unfolding symbolRows
-symbols-most w k = go (eqb (classWord w k) 2)
-  where
-    go : (b : Bool) → cond b (rowsWord w k) 0 ≤ rowsWord w k
-    go true = le-refl (rowsWord w k)
-    go false = omega arith
 
 -- ---- the leaf that a type's words stand for
 
@@ -104,43 +94,60 @@ pub leaf-plain : (w t : List ℕ) (k : ℕ) → (classWord w k ≡ 2 → ⊥) �
 unfolding leafOfType
 leaf-plain w t k not = rw (ne-eqb (classWord w k) 2 not)
 
-leaf-valid : (w t : List ℕ) (k : ℕ) → WellFormedLeaf (leafOfType w t k) → Valid (layoutAt w k)
+pub leaf-valid : (w t : List ℕ) (k : ℕ) → WellFormedLeaf (leafOfType w t k) → Valid (layoutAt w k)
 leaf-valid w t k f = subst Valid (leaf-layout w t k) (valid (leafOfType w t k) f)
 
--- an enum is one of the 64 types
-class-inside : (w : List ℕ) (k : ℕ) → classWord w k ≡ 2 → k < 64
-unfolding typeWord
-class-inside w k e = go (ltb k 64) refl e
-  where
-    go : (b : Bool) → ltb k 64 ≡ b → cond b (getD w (16 * k + 0) 0) 0 ≡ 2 → k < 64
-    go true q h = ltb-true k 64 q
-    go false q h = absurd (omega (arith, h))
+-- ---- a row by a span
 
--- ---- a row that was found is one of those that were looked through
+module _ (words : List ℕ) (k raw : ℕ) {low : ℕ} (rl : Reads (getD words (k + 1) 0) low) where
+  pub span-below : raw < low → (0 ≡ spanCode words k raw) × (0 < 4294967296)
+  unfolding spanCode
+  span-below h = (rw (← (rl .is), lt-leb low raw h), omega arith)
 
-pub numbered-below : (w : List ℕ) (z : ℤ) (first n j : ℕ) → rowNumbered w z first n ≡ At j → j < first + n
-unfolding rowNumbered
-numbered-below w z first zero j e = let no : _≡_ {A = ℕ} 0 1 = cc in absurd (omega arith)
-numbered-below w z first (suc n) j e = go (numbered-below w z first n j) (sameNumber z (valueAt w (first + n))) e
-  where
-    go : (rowNumbered w z first n ≡ At j → j < first + n) → (b : Bool) → cond b (At (first + n)) (rowNumbered w z first n) ≡ At j → j < first + suc n
-    go later true h = let i : first + n ≡ j = cc in omega arith
-    go later false h = omega (arith, later h)
+  module _ (above : low ≤ raw) {count : ℕ} (rc : Reads (getD words (k + 2) 0) count) where
+    pub span-above : count ≤ raw - low → (0 ≡ spanCode words k raw) × (0 < 4294967296)
+    unfolding spanCode
+    span-above h = (rw (← (rl .is), ← (rc .is), le-leb low raw above, le-ltb (raw - low) count h), omega arith)
 
-pub row-below : (w : List ℕ) (z : ℤ) (k : ℕ) {first rows j : ℕ} {f : Found} → RowsWithin w k → Reads (firstWord w k) first → (rows ≡ symbolRows w k) × (rows ≤ rowsWord w k)
-    → f ≡ rowNumbered w z first rows → f ≡ At j → j < 256
-row-below w z k {first} {rows} {j} inside rf rr e q = omega (arith, numbered-below w z first rows j (sym e ∙ q), rf .is)
+    pub span-inside : {start r : ℕ} → raw - low < count → Reads (getD words (k + 3) 0) start → Reads (getD words (start + (raw - low)) 0) r
+        → (r ≡ spanCode words k raw) × (r < 4294967296)
+    unfolding spanCode
+    span-inside h rs rr = (rw (← (rl .is), ← (rc .is), ← (rs .is), le-leb low raw above, lt-ltb (raw - low) count h) (rr .is), rr .small)
 
--- the source row by its number, and its symbol by the word of `to`
-pub row-found : (ws wd to : List ℕ) (z : ℤ) (s d p : ℕ) {first rows j : ℕ} {f : Found} {r : Fitted} → Reads (firstWord ws s) first
-    → (rows ≡ symbolRows ws s) × (rows ≤ rowsWord ws s) → f ≡ rowNumbered ws z first rows → f ≡ At j → r ≡ codeBits wd p (getD to (d * 256 + j) 0)
-    → r ≡ foundBits to wd d p (rowNumbered ws z (firstWord ws s) (symbolRows ws s))
-row-found ws wd to z s d p rf rr e q h = rw (← (rf .is), ← (rr .0), ← e, q) h
+-- ---- a row by ids
 
-pub row-missing : (ws wd to : List ℕ) (z : ℤ) (s d p : ℕ) {first rows : ℕ} {f : Found} {r : Fitted} → Reads (firstWord ws s) first
-    → (rows ≡ symbolRows ws s) × (rows ≤ rowsWord ws s) → f ≡ rowNumbered ws z first rows → f ≡ Missing → r ≡ allOnes p
-    → r ≡ foundBits to wd d p (rowNumbered ws z (firstWord ws s) (symbolRows ws s))
-row-missing ws wd to z s d p rf rr e q h = rw (← (rf .is), ← (rr .0), ← e, q) h
+module _ (words : List ℕ) (id first : ℕ) where
+  pub alike-none : (n : ℕ) → n ≤ 0 → rowAlike words id first n ≡ Missing
+  unfolding rowAlike
+  alike-none zero h = refl
+  alike-none (suc n) h = absurd (not-suc-le-zero h)
+
+  pub alike-hit : (n : ℕ) {x : ℕ} → 0 < n → Reads (getD words (256 + (first + (n - 1))) 0) x → x ≡ id → rowAlike words id first n ≡ At (first + (n - 1))
+  unfolding rowAlike
+  alike-hit zero h r e = absurd (not-suc-le-zero h)
+  alike-hit (suc n) h r e =
+      let s : suc n - 1 ≡ n = omega arith in
+      let q : getD words (256 + (first + n)) 0 ≡ id = sym (simp s at (r .is)) ∙ e in
+      rw (s, eq-eqb (getD words (256 + (first + n)) 0) id q)
+
+  pub alike-skip : (n : ℕ) {x : ℕ} → 0 < n → Reads (getD words (256 + (first + (n - 1))) 0) x → (x ≡ id → ⊥) → rowAlike words id first n ≡ rowAlike words id first (n - 1)
+  unfolding rowAlike
+  alike-skip zero h r e = absurd (not-suc-le-zero h)
+  alike-skip (suc n) h r e =
+      let s : suc n - 1 ≡ n = omega arith in
+      rw (s, ne-eqb (getD words (256 + (first + n)) 0) id (λ q. e (simp s at (r .is) ∙ q)))
+
+pub alike-read : (words wd : List ℕ) (j d : ℕ) {id first rows r : ℕ} → Reads (getD words j 0) id → Reads (firstWord wd d) first → Reads (rowsWord wd d) rows
+    → r ≡ rowCode (rowAlike words id first rows) → r ≡ rowCode (rowAlike words (getD words j 0) (firstWord wd d) (rowsWord wd d))
+alike-read words wd j d ri rf rr h = h ∙ rw (ri .is, rf .is, rr .is)
+
+pub looked-found : (words ws wd : List ℕ) (z : ℤ) (s d : ℕ) {first rows j r : ℕ} {f : Found} → Reads (firstWord ws s) first → (rows ≡ symbolRows ws s) × (rows < 4294967296)
+    → f ≡ rowNumbered ws z first rows → f ≡ At j → r ≡ rowCode (rowAlike words (getD words j 0) (firstWord wd d) (rowsWord wd d)) → r ≡ lookedCode words ws wd s d z
+looked-found words ws wd z s d rf rr e q h = rw (← (rf .is), ← (rr .0), ← e, q) h
+
+pub looked-missing : (words ws wd : List ℕ) (z : ℤ) (s d : ℕ) {first rows : ℕ} {f : Found} → Reads (firstWord ws s) first → (rows ≡ symbolRows ws s) × (rows < 4294967296)
+    → f ≡ rowNumbered ws z first rows → f ≡ Missing → 0 ≡ lookedCode words ws wd s d z
+looked-missing words ws wd z s d rf rr e q = rw (← (rf .is), ← (rr .0), ← e, q)
 
 -- ---- a number in range keeps its bits
 
@@ -159,142 +166,118 @@ inside-bits l z e = go (ltZ (largest (l .signed) (l .precision)) z) (ltZ z (smal
 
 -- ---- an enum's number
 
-module _ (s d : ℕ) (ws wd to : List ℕ) (p : Pair s d ws wd to) (enum : classWord wd d ≡ 2) where
-  abbrev l : Layout
-  l = layoutAt wd d
-
+module _ (ws ts wd td : List ℕ) (s d : ℕ) (formed : WellFormedLeaf (leafOfType wd td d)) (enum : classWord wd d ≡ 2) where
   abbrev names : List Symbol
-  names = symbolsAt wd (p .destinationText) (firstWord wd d) (rowsWord wd d)
+  names = symbolsAt wd td (firstWord wd d) (rowsWord wd d)
 
   listed : Symbols (layoutAt wd d) names
-  listed = subst WellFormedLeaf (leaf-enum wd (p .destinationText) d enum) (p .destination) .symbols
+  listed = subst WellFormedLeaf (leaf-enum wd td d enum) formed .symbols
 
-  code-names : (x : List ℕ) (o : Found) → rowNamed wd (p .destinationText) x (firstWord wd d) (rowsWord wd d) ≡ o
+  code-names : (x : List ℕ) (o : Found) → rowNamed wd td x (firstWord wd d) (rowsWord wd d) ≡ o
       → codeBits wd (layoutAt wd d .precision) (rowCode o) ≡ onSome (fitted (layoutAt wd d)) (untranslated (layoutAt wd d)) (valueFound wd o)
   code-names x (At i) q =
       rw add-one (inside-bits (layoutAt wd d) (valueAt wd i)
-      (listed-in-range (layoutAt wd d) names x (valueAt wd i) listed (symbol-named wd (p .destinationText) x (firstWord wd d) (rowsWord wd d) ∙ rw q)))
+      (listed-in-range (layoutAt wd d) names x (valueAt wd i) listed (symbol-named wd td x (firstWord wd d) (rowsWord wd d) ∙ rw q)))
   code-names x Missing q = refl
 
-  found-names : (z : ℤ) (o : Found) → rowNumbered ws z (firstWord ws s) (symbolRows ws s) ≡ o
-      → foundBits to wd d (layoutAt wd d .precision) o
-      ≡ onSome (fitted (layoutAt wd d)) (untranslated (layoutAt wd d)) (onSome (λ x. numberOf x names) none (nameFound ws (p .sourceText) o))
-  found-names z (At j) q =
-      let low : j < 256 = omega (arith, numbered-below ws z (firstWord ws s) (symbolRows ws s) j q, symbols-most ws s, p .sourceRows) in
-      rw (p .translates d j (class-inside wd d enum) low enum (p .destinationRows), symbol-named wd (p .destinationText) (nameAt ws (p .sourceText) j) (firstWord wd d) (rowsWord wd d))
-      (code-names (nameAt ws (p .sourceText) j) (rowNamed wd (p .destinationText) (nameAt ws (p .sourceText) j) (firstWord wd d) (rowsWord wd d)) refl)
-  found-names z Missing q = refl
+  found-names : (o : Found)
+      → codeBits wd (layoutAt wd d .precision) (namedCode ws ts wd td d o)
+      ≡ onSome (fitted (layoutAt wd d)) (untranslated (layoutAt wd d)) (onSome (λ x. numberOf x names) none (nameFound ws ts o))
+  found-names (At j) =
+      rw (symbol-named wd td (nameAt ws ts j) (firstWord wd d) (rowsWord wd d))
+      (code-names (nameAt ws ts j) (rowNamed wd td (nameAt ws ts j) (firstWord wd d) (rowsWord wd d)) refl)
+  found-names Missing = refl
 
-  enum-converted : (z : ℤ)
-      → foundBits to wd d (layoutAt wd d .precision) (rowNumbered ws z (firstWord ws s) (symbolRows ws s))
-      ≡ converted (leafOfType ws (p .sourceText) s) (leafOfType wd (p .destinationText) d) z
-  enum-converted z =
-      rw (leaf-enum wd (p .destinationText) d enum, leaf-symbols ws (p .sourceText) s, symbol-numbered ws z (firstWord ws s) (p .sourceText) (symbolRows ws s))
-      (found-names z (rowNumbered ws z (firstWord ws s) (symbolRows ws s)) refl)
+  -- the row that the words lead to, as significant bits, is what the definition makes of the number
+  pub enum-converted : (raw : ℕ)
+      → codeBits wd (layoutAt wd d .precision) (translatedCode ws ts wd td s d raw)
+      ≡ converted (leafOfType ws ts s) (leafOfType wd td d) (valued (layoutAt ws s .signed) (layoutAt ws s .precision) raw)
+  unfolding translatedCode numberRow
+  enum-converted raw =
+      let z : ℤ = valued (layoutAt ws s .signed) (layoutAt ws s .precision) raw in
+      rw (leaf-enum wd td d enum, leaf-symbols ws ts s, symbol-numbered ws z (firstWord ws s) ts (symbolRows ws s)) (found-names (rowNumbered ws z (firstWord ws s) (symbolRows ws s)))
+
+-- ---- the row of an enum's number, by the route
+
+module _ (s d : ℕ) (ws wd words : List ℕ) (k raw : ℕ) {x o : ℕ} (rx : Reads (getD words k 0) x) (ro : o ≡ routeIn x) where
+  route-is : o ≡ routeIn (getD words k 0)
+  route-is = ro ∙ ap routeIn (rx .is)
+
+  pub spanned : {code : ℕ} → raw < 2 ^ layoutAt ws s .precision → 3 ≤ routeIn (getD words k 0) → o < 6 → code ≡ spanCode words k raw
+      → (p : Pair s d ws wd words k) → code ≡ translatedCode ws (p .sourceText) wd (p .destinationText) s d raw
+  spanned low enum few h p = h ∙ p .entry .span enum (rw (← route-is) few) .is raw low
+
+  pub looked-up : {code : ℕ} {l : Layout} (n : Number) (z : Parts) → 6 ≤ o → l ≡ layoutAt ws s → meaning n ≡ valued (l .signed) (l .precision) raw
+      → meaning n ≡ signedBy (z .negative) (z .distance) → code ≡ lookedCode words ws wd s d (signedBy (z .negative) (z .distance))
+      → (p : Pair s d ws wd words k) → code ≡ translatedCode ws (p .sourceText) wd (p .destinationText) s d raw
+  unfolding translatedCode numberRow
+  looked-up n z many el hn hz h p =
+      let class = p .entry .enum (omega (arith, route-is)) in
+      h ∙ looked-named words ws (p .sourceText) wd (p .destinationText) (p .names (rw (← route-is) many)) d class (p .destinationRows) s (signedBy (z .negative) (z .distance)) (p .sourceRows)
+      ∙ rw (← hz, hn, el)
+
+pub code-here : (src : List ℕ) (a s d : ℕ) (ws wd words : List ℕ) (k : ℕ) {raw code : ℕ} {l : Layout} → l ≡ layoutAt ws s → raw ≡ rawAt l a src
+    → ((p : Pair s d ws wd words k) → code ≡ translatedCode ws (p .sourceText) wd (p .destinationText) s d raw)
+    → (p : Pair s d ws wd words k) → code ≡ translatedCode ws (p .sourceText) wd (p .destinationText) s d (rawAt (layoutAt ws s) a src)
+code-here src a s d ws wd words k el er h p = h p ∙ rw (er, el)
 
 -- ---- a leaf's number
 
 -- what a leaf's function promises: the definition's bits and kind, whatever the texts are
-abbrev Becomes : List ℕ → ℕ → ℕ → ℕ → List ℕ → List ℕ → List ℕ → Fitted → Type 0
-Becomes src a s d ws wd to r = ((p : Pair s d ws wd to) → r ≡ pairBecomes p a src) × (r .raw < 2 ^ layoutAt wd d .precision)
+abbrev pub Becomes : List ℕ → ℕ → ℕ → ℕ → List ℕ → List ℕ → List ℕ → ℕ → Fitted → Type 0
+Becomes src a s d ws wd words k r = ((p : Pair s d ws wd words k) → r ≡ pairBecomes p a src) × (r .raw < 2 ^ layoutAt wd d .precision)
 
-becomes-lt : (src : List ℕ) (a s d : ℕ) (ws wd to : List ℕ) (r : Fitted) → Pair s d ws wd to → ((p : Pair s d ws wd to) → r ≡ pairBecomes p a src)
-    → Becomes src a s d ws wd to r
-becomes-lt src a s d ws wd to r p h =
+becomes-lt : (src : List ℕ) (a s d : ℕ) (ws wd words : List ℕ) (k : ℕ) (r : Fitted) → Pair s d ws wd words k → ((p : Pair s d ws wd words k) → r ≡ pairBecomes p a src)
+    → Becomes src a s d ws wd words k r
+becomes-lt src a s d ws wd words k r p h =
     (h, rw (h p, ← (leaf-layout wd (p .destinationText) d)) (converted-lt (leafOfType ws (p .sourceText) s) (leafOfType wd (p .destinationText) d) (numberIn (leafOfType ws (p .sourceText) s) a src) (p .destination)))
 
-pub enum-becomes : (src : List ℕ) (a s d : ℕ) (ws wd to : List ℕ) (l : Layout) (q : ℕ) (n : Number) (z : Parts) {r : Fitted} → EnumReady (length src) a s d ws wd to l q
-    → meaning n ≡ numberAt l a src → meaning n ≡ signedBy (z .negative) (z .distance)
-    → r ≡ foundBits to wd d q (rowNumbered ws (signedBy (z .negative) (z .distance)) (firstWord ws s) (symbolRows ws s))
-    → Becomes src a s d ws wd to r
-enum-becomes src a s d ws wd to l q n z {r} ready hn hz hr =
-    becomes-lt src a s d ws wd to r (ready .pair)
-    (λ p.
-    let same : signedBy (z .negative) (z .distance) ≡ numberIn (leafOfType ws (p .sourceText) s) a src = rw (leaf-layout ws (p .sourceText) s, ← (ready .layout), ← hn, ← hz) in
-    hr ∙ rw (ready .precision, same) (enum-converted s d ws wd to p (ready .class) (numberIn (leafOfType ws (p .sourceText) s) a src)))
+module _ (n a s d : ℕ) (ws wd words : List ℕ) (k : ℕ) (ready : EnumReady n a s d ws wd words k) where
+  pub enum-source : {l : Layout} → l ≡ layoutAt ws s → Valid l × (a + l .size .0 ≤ n)
+  enum-source e = rw e (leaf-valid ws (ready .pair .sourceText) s (ready .pair .source), ready .read)
 
--- the same by the table of rows
-row-back : (f : Found) → rowOf (rowCode f) ≡ f
-row-back (At j) = rw (add-one j)
-row-back Missing = refl
+  pub enum-precision : {q : ℕ} → q ≡ layoutAt wd d .precision → q ≤ 64
+  enum-precision e = rw e (leaf-valid wd (ready .pair .destinationText) d (ready .pair .destination) .most)
 
-pub code-none-of : (to w : List ℕ) (d p : ℕ) {code : ℕ} {r : Fitted} → code ≡ 0 → r ≡ allOnes p → r ≡ foundBits to w d p (rowOf code)
-code-none-of to w d p e h = rw e h
+module _ (src : List ℕ) (a s d : ℕ) (ws wd words : List ℕ) (k : ℕ) (ready : EnumReady (length src) a s d ws wd words k)
+    {code : ℕ} (is : (p : Pair s d ws wd words k) → code ≡ translatedCode ws (p .sourceText) wd (p .destinationText) s d (rawAt (layoutAt ws s) a src)) where
+  bits-become : (p : Pair s d ws wd words k) → codeBits wd (layoutAt wd d .precision) code ≡ pairBecomes p a src
+  bits-become p =
+      rw (is p, leaf-layout ws (p .sourceText) s)
+      (enum-converted ws (p .sourceText) wd (p .destinationText) s d (p .destination) (p .entry .enum (ready .enum)) (rawAt (layoutAt ws s) a src))
 
-pub code-some-of : (to w : List ℕ) (d p code : ℕ) {r : Fitted} → (code ≡ 0 → ⊥) → r ≡ codeBits w p (getD to (d * 256 + (code - 1)) 0) → r ≡ foundBits to w d p (rowOf code)
-code-some-of to w d p zero not h = absurd (not refl)
-code-some-of to w d p (suc j) not h = let e : suc j - 1 ≡ j = omega arith in rw e at h
+  pub enum-becomes : {q : ℕ} {r : Fitted} → q ≡ layoutAt wd d .precision → r ≡ codeBits wd q code → Becomes src a s d ws wd words k r
+  enum-becomes {r = r} e h = becomes-lt src a s d ws wd words k r (ready .pair) (λ p. h ∙ rw e (bits-become p))
 
-module _ (src : List ℕ) (a s d : ℕ) (ws wd to : List ℕ) (l : Layout) (q : ℕ) (ready : EnumReady (length src) a s d ws wd to l q) {c raw : ℕ} (rc : Reads (classWord ws s) c) (e : c ≡ 2)
-    (few : l .precision ≤ 8) (hw : raw ≡ rawAt l a src) (small : raw < 2 ^ l .precision) where
-  class : classWord ws s ≡ 2
-  class = sym (rc .is) ∙ e
+  pub enum-missing : code ≡ 0 → (p : Pair s d ws wd words k) → 3 ≡ pairBecomes p a src .kind
+  enum-missing e p = ap (λ (t : Fitted). t .kind) (rw e at (bits-become p))
 
-  abbrev found : Found
-  found = rowNumbered ws (valued (layoutAt ws s .signed) (layoutAt ws s .precision) raw) (firstWord ws s) (rowsWord ws s)
+  pub enum-found : (code ≡ 0 → ⊥) → (p : Pair s d ws wd words k) → 0 ≡ pairBecomes p a src .kind
+  enum-found not p =
+      let e : code ≡ suc (code - 1) = omega arith in
+      ap (λ (t : Fitted). t .kind) (rw e at (bits-become p))
 
-  valid-source : Valid (layoutAt ws s)
-  valid-source = leaf-valid ws (ready .pair .sourceText) s (ready .pair .source)
+-- a leaf that is no enum
+pub number-becomes : {s d : ℕ} {ws wd words : List ℕ} {k : ℕ} (p : Pair s d ws wd words k) → (classWord wd d ≡ 2 → ⊥) → (a : ℕ) (src : List ℕ)
+    → fitted (layoutAt wd d) (numberAt (layoutAt ws s) a src) ≡ pairBecomes p a src
+number-becomes {s} {d} {ws} {wd} p not a src = rw (leaf-plain wd (p .destinationText) d not, leaf-layout ws (p .sourceText) s)
 
-  row-code : {code : ℕ} → Reads (getD to (16384 + (s * 256 + raw)) 0) code → code ≡ rowCode found
-  row-code r =
-      r .is ∙ ready .pair .numbers s raw (class-inside ws s class) class (ready .pair .sourceRows) (valid-source .some) (rw (← (ready .layout)) few) (rw (← (ready .layout)) small)
+pub pair-valid : {s d : ℕ} {ws wd words : List ℕ} {k : ℕ} → Pair s d ws wd words k → Valid (layoutAt ws s) × Valid (layoutAt wd d)
+pair-valid {s} {d} {ws} {wd} p = (leaf-valid ws (p .sourceText) s (p .source), leaf-valid wd (p .destinationText) d (p .destination))
 
-  found-small : (f : Found) → found ≡ f → rowCode f ≤ 256
-  found-small (At j) g = omega (arith, numbered-below ws _ (firstWord ws s) (rowsWord ws s) j g, ready .pair .sourceRows)
-  found-small Missing g = omega arith
+-- ---- what is stored
 
-  pub code-small : {code : ℕ} → Reads (getD to (16384 + (s * 256 + raw)) 0) code → (q ≤ 64) × (d < 64) × (code ≤ 256)
-  code-small r =
-      (rw (ready .precision) (leaf-valid wd (ready .pair .destinationText) d (ready .pair .destination) .most), class-inside wd d (ready .class), rw (row-code r) (found-small found refl))
-
-  pub index-small : s * 256 + raw < 16384
-  index-small =
-      let most : 2 ^ l .precision ≤ 2 ^ 8 = pow-mono few in
-      omega (arith, class-inside ws s class)
-
-  pub coded-becomes : {code : ℕ} {r : Fitted} → Reads (getD to (16384 + (s * 256 + raw)) 0) code → r ≡ foundBits to wd d q (rowOf code) → Becomes src a s d ws wd to r
-  unfolding symbolRows
-  coded-becomes {code} {r} rd h =
-      becomes-lt src a s d ws wd to r (ready .pair)
-      (λ p.
-      let rows : symbolRows ws s ≡ rowsWord ws s = rw (eq-eqb (classWord ws s) 2 class) in
-      let same : valued (layoutAt ws s .signed) (layoutAt ws s .precision) raw ≡ numberIn (leafOfType ws (p .sourceText) s) a src = rw (leaf-layout ws (p .sourceText) s, hw, ready .layout) in
-      h ∙ rw (row-code rd, row-back found, ready .precision, ← rows, same) (enum-converted s d ws wd to p (ready .class) (numberIn (leafOfType ws (p .sourceText) s) a src)))
-
-pub plain-becomes : (src : List ℕ) (a s d : ℕ) (ws wd to : List ℕ) {l m : Layout} {c raw : ℕ} {r : Fitted} → Pair s d ws wd to
-    → l ≡ layoutAt ws s → m ≡ layoutAt wd d → Reads (classWord wd d) c → (c ≡ 2 → ⊥) → raw ≡ rawAt l a src
-    → r ≡ fitted m (valued (l .signed) (l .precision) raw) → Becomes src a s d ws wd to r
-plain-becomes src a s d ws wd to {l} {m} {c} {raw} {r} pair el em rc not hw hr =
-    becomes-lt src a s d ws wd to r pair
-    (λ p. hr ∙ rw (leaf-plain wd (p .destinationText) d (λ e. not (rc .is ∙ e)), leaf-layout ws (p .sourceText) s, hw, el, em))
-
--- ---- what the steps ask for
-
-pub source-fits : (src : List ℕ) (a s d : ℕ) (ws wd to : List ℕ) {l : Layout} → Pair s d ws wd to × (a + layoutAt ws s .size .0 ≤ length src) → l ≡ layoutAt ws s
-    → Valid l × (a + l .size .0 ≤ length src)
-source-fits src a s d ws wd to h e = rw e (leaf-valid ws (h .0 .sourceText) s (h .0 .source), h .1)
-
-pub destination-valid : (s d : ℕ) (ws wd to : List ℕ) {l : Layout} → Pair s d ws wd to → l ≡ layoutAt wd d → Valid l
-destination-valid s d ws wd to p e = rw e (leaf-valid wd (p .destinationText) d (p .destination))
-
-pub enum-fits : (n a s d : ℕ) (ws wd to : List ℕ) (l : Layout) (q : ℕ) → EnumReady n a s d ws wd to l q → (q ≤ 64) × (d < 64) × RowsWithin ws s
-enum-fits n a s d ws wd to l q r =
-    (rw (r .precision) (leaf-valid wd (r .pair .destinationText) d (r .pair .destination) .most), class-inside wd d (r .class), r .pair .sourceRows)
-
-pub enum-ready : (src : List ℕ) (a s d : ℕ) (ws wd to : List ℕ) {l m : Layout} {c : ℕ} → Pair s d ws wd to × (a + layoutAt ws s .size .0 ≤ length src) → l ≡ layoutAt ws s
-    → m ≡ layoutAt wd d → Reads (classWord wd d) c → c ≡ 2 → EnumReady (length src) a s d ws wd to l (m .precision)
-enum-ready src a s d ws wd to h el em rc e =
-    record { pair = h .0; read = h .1; class = sym (rc .is) ∙ e; layout = el; precision = ap (λ (l : Layout). l .precision) em }
-
-pub source-ready : (n a s d : ℕ) (ws wd to : List ℕ) (l : Layout) (q : ℕ) → EnumReady n a s d ws wd to l q → Valid l × (a + l .size .0 ≤ n)
-source-ready n a s d ws wd to l q r = rw (r .layout) (leaf-valid ws (r .pair .sourceText) s (r .pair .source), r .read)
-
-pub store-fits : (s d b n raw : ℕ) (ws wd to : List ℕ) {l : Layout} → Pair s d ws wd to → b + layoutAt wd d .size .0 ≤ n → l ≡ layoutAt wd d
+pub store-fits : (s d b n raw : ℕ) (ws wd words : List ℕ) (k : ℕ) {l : Layout} → Pair s d ws wd words k → b + layoutAt wd d .size .0 ≤ n → l ≡ layoutAt wd d
     → raw < 2 ^ layoutAt wd d .precision → Valid l × (b + l .size .0 ≤ n) × (raw < 2 ^ l .precision)
-store-fits s d b n raw ws wd to p h e g = rw e (leaf-valid wd (p .destinationText) d (p .destination), h, g)
+store-fits s d b n raw ws wd words k p h e g = rw e (pair-valid p .1, h, g)
 
-pub leaf-stored : (src dst out : List ℕ) (a b s d : ℕ) (ws wd to : List ℕ) {l : Layout} {f : Fitted} → Becomes src a s d ws wd to f → l ≡ layoutAt wd d
+pub leaf-stored : (src dst out : List ℕ) (a b s d : ℕ) (ws wd words : List ℕ) (k : ℕ) {l : Layout} {f : Fitted} → Becomes src a s d ws wd words k f → l ≡ layoutAt wd d
     → out ≡ stored l b (f .raw) dst
-    → (p : Pair s d ws wd to) → (f .kind ≡ pairBecomes p a src .kind) × (out ≡ stored (layoutAt wd d) b (pairBecomes p a src .raw) dst)
-leaf-stored src dst out a b s d ws wd to {l} {f} h e g p = (ap (λ (t : Fitted). t .kind) (h .0 p), g ∙ rw (e, h .0 p))
+    → (p : Pair s d ws wd words k) → (f .kind ≡ pairBecomes p a src .kind) × (out ≡ stored (layoutAt wd d) b (pairBecomes p a src .raw) dst)
+leaf-stored src dst out a b s d ws wd words k {l} {f} h e g p = (ap (λ (t : Fitted). t .kind) (h .0 p), g ∙ rw (e, h .0 p))
+
+-- what was promised of a number, as the pair's
+pub number-stored : (src dst out : List ℕ) (a b s d kind : ℕ) (ws wd words : List ℕ) (k : ℕ) → (classWord wd d ≡ 2 → ⊥)
+    → (kind ≡ fitted (layoutAt wd d) (numberAt (layoutAt ws s) a src) .kind) × (out ≡ stored (layoutAt wd d) b (fitted (layoutAt wd d) (numberAt (layoutAt ws s) a src) .raw) dst)
+    → (p : Pair s d ws wd words k) → (kind ≡ pairBecomes p a src .kind) × (out ≡ stored (layoutAt wd d) b (pairBecomes p a src .raw) dst)
+number-stored src dst out a b s d kind ws wd words k not h p = rw (number-becomes p not a src) at h

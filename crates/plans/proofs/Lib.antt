@@ -1,3 +1,4 @@
+pub mod Names
 pub mod LeafSteps
 pub mod Entries
 pub mod OneEntry

@@ -8,21 +8,22 @@ use Rattle.number.specs.Number.{numberAt, fitted}
 use Rattle.number.specs.Place.{stored}
 use Rattle.table.specs.Table.{layoutAt}
 use Rattle.table.specs.Words.{Reads}
+use Rattle.entry_code.specs.Code.{routeIn}
 use Rattle.easy.specs.Words.{EasyAt}
 use Rattle.plans.specs.declared.PlanEntry.{PlanEntry}
 use Rattle.records.specs.Plan.{written, raisedBy}
-use Rattle.plans.specs.PlanWords.{Ready, entriesOf}
+use Rattle.plans.specs.PlanWords.{Ready, entriesOf, wordsPlace}
 use Rattle.plans.specs.PlanEntries.{wordsAt, EntryReady}
-use Rattle.plans.proofs.EasyLeaves.{easy-at, easy-kind, easy-stored}
+use Rattle.plans.proofs.EasyLeaves.{easy-at, easy-became}
 use Rattle.plans.proofs.Entries.{entry-ready, left-start, left-turn, left-end}
 
-module _ {s d : ℕ} {plan : List ℕ} {n : ℕ} {ws wd to : List ℕ} (p : Ready s d plan n ws wd to) (single : n ≡ 1) (e : PlanEntry) (q : e ≡ wordsAt plan 0)
-    {o : ℕ} (ro : Reads (getD to 32768 0) o) (some : o ≡ 0 → ⊥) (low : o < 3) where
-  one : EntryReady s d e 0 ws wd to
-  one = entry-ready s d plan n ws wd to p 0 (omega arith) e q
+module _ {s d : ℕ} {plan : List ℕ} {n : ℕ} {ws wd words : List ℕ} (p : Ready s d plan n ws wd words) (single : n ≡ 1) (e : PlanEntry) (q : e ≡ wordsAt plan 0)
+    {x o : ℕ} (rx : Reads (getD words (wordsPlace 0) 0) x) (ro : (o ≡ routeIn x) × (o < 8)) (some : o ≡ 0 → ⊥) (low : o < 3) where
+  one : EntryReady s d e 0 ws wd words
+  one = entry-ready s d plan n ws wd words p 0 (omega arith) e q
 
-  pub one-easy : EasyAt (layoutAt ws (e .source)) (layoutAt wd (e .destination)) to 32768
-  one-easy = easy-at (e .source) (e .destination) ws wd to 0 (one .easy) ro some low
+  pub one-easy : EasyAt (layoutAt ws (e .source)) (layoutAt wd (e .destination)) words (wordsPlace 0)
+  one-easy = easy-at one refl rx ro some low
 
   pub one-read : e .from + layoutAt ws (e .source) .size .0 ≤ s
   one-read = one .read
@@ -34,10 +35,7 @@ module _ {s d : ℕ} {plan : List ℕ} {n : ℕ} {ws wd to : List ℕ} (p : Read
       → out ≡ stored (layoutAt wd (e .destination)) (e .to) (fitted (layoutAt wd (e .destination)) (numberAt (layoutAt ws (e .source)) (e .from) src) .raw) dst
       → (out ≡ written (entriesOf p) src dst) × (0 ≡ raisedBy (entriesOf p) src)
   one-written src dst out h =
-      left-end s d plan n ws wd to p src dst 1 0 out (omega arith)
-      (left-turn s d plan n ws wd to p src dst 0 0 0 dst out (omega arith) (left-start s d plan n ws wd to p src dst) q
-      (λ r. (
-        easy-kind (e .source) (e .destination) ws wd to 0 (one .easy) ro some low r (e .from) src,
-        easy-stored (e .source) (e .destination) ws wd to 0 (one .easy) ro some low r (e .from) src (e .to) dst h,
-      ))
+      left-end s d plan n ws wd words p src dst 1 0 out (omega arith)
+      (left-turn s d plan n ws wd words p src dst 0 0 0 dst out (omega arith) (left-start s d plan n ws wd words p src dst) q
+      (easy-became one refl rx ro some low src dst out h)
       refl)

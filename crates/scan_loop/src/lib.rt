@@ -18,14 +18,14 @@ pub fn first_exception(
     n: usize,
     ws: &[u32],
     wd: &[u32],
-    to: &[u32],
+    words: &[u32],
 ) -> Stop
-    requires { ⌜ ((d : ℕ) × Job s d (now plan) n (now ws) (now wd) (now to)) × (c ≤ 65536) × (c * s ≤ length (now src)) ⌝ }
-    ensures { λ r. ⌜ ((d : ℕ) (j : Job s d (now (plan .entry)) n (now (ws .entry)) (now (wd .entry)) (now (to .entry))) → r ≡ stopBy (planOf (j .source) (j .destination)) s (now (src .entry)) 0 c) ⌝ }
+    requires { ⌜ ((d : ℕ) × Job s d (now plan) n (now ws) (now wd) (now words)) × (c ≤ 65536) × (c * s ≤ length (now src)) ⌝ }
+    ensures { λ r. ⌜ ((d : ℕ) (j : Job s d (now (plan .entry)) n (now (ws .entry)) (now (wd .entry)) (now (words .entry))) → r ≡ stopBy (planOf (j .source) (j .destination)) s (now (src .entry)) 0 c) ⌝ }
 {
     let mut i: usize = 0;
     while i < c {
-        if let Raising::At(b, kind) = first_raising(&src[i * s..], plan, n, ws, wd, to) {
+        if let Raising::At(b, kind) = first_raising(&src[i * s..], plan, n, ws, wd, words) {
             return Stop::At(i as u32, b, kind);
         }
         i += 1;

@@ -15,12 +15,12 @@ use Rattle.copy_loop.proofs.copy_records.Statement.{statement}
 use Rattle.copy_loop.proofs.copy_records.Tie as tie
 
 abbrev Inv-loop : tie.InvT-loop
-Inv-loop src dst₀ c s d plan n ws wd to total₀ i₀ dst total i =
+Inv-loop src dst₀ c s d plan n ws wd words total₀ i₀ dst total i =
     (i ≤ c) × (length dst ≡ length dst₀) × (total ≤ 4096 * i)
-    × ((j : Job s d plan n ws wd to) (was : List ℕ) → length dst₀ ≡ length was → c * d ≤ length was → Done (j .source) (j .destination) d c src was i₀ dst₀ 0 → Done (j .source) (j .destination) d c src was i dst total)
+    × ((j : Job s d plan n ws wd words) (was : List ℕ) → length dst₀ ≡ length was → c * d ≤ length was → Done (j .source) (j .destination) d c src was i₀ dst₀ 0 → Done (j .source) (j .destination) d c src was i dst total)
 
 abbrev μ-loop : tie.MeasureT-loop
-μ-loop src dst₀ c s d plan n ws wd to total₀ i₀ dst total i = c - i
+μ-loop src dst₀ c s d plan n ws wd words total₀ i₀ dst total i = c - i
 
 -- record i lies within both
 rows : (c : tie.In-loop Inv-loop μ-loop)
@@ -35,7 +35,7 @@ loop-holds c = (c .before .before .copy-single .ensures .0, refl, omega arith, �
 -- what the call for record i leaves, and counts
 called : (c : tie.After-write-record Inv-loop μ-loop)
     → (let a = c .before .before .before .before .before .before .before .before .before .before .before .before .before .before .before .args in let l = c .before .before .before .before .loop in
-    (j : Job (a .s) (a .d) (a .plan .now) (a .n) (a .ws .now) (a .wd .now) (a .to .now))
+    (j : Job (a .s) (a .d) (a .plan .now) (a .n) (a .ws .now) (a .wd .now) (a .words .now))
     → (c .write-record .last .1 .0 ≡ recordBy j (take (a .s) (drop (l .i * a .s) (a .src .now))) (take (a .d) (drop (l .i * a .d) (l .dst))) ++ drop (a .d) (drop (l .i * a .d) (l .dst)))
     × (c .write-record .result ≡ raisedOf j (take (a .s) (drop (l .i * a .s) (a .src .now)))))
 called c j =

@@ -12,11 +12,11 @@ use Rattle.in_place_loop.proofs.replace_up.Statement.{statement}
 use Rattle.in_place_loop.proofs.replace_up.Tie as tie
 
 abbrev Inv-loop : tie.InvT-loop
-Inv-loop buf₀ background c s d plan n ws wd to staging₀ total₀ i₀ buf staging total i =
-    (i ≤ c) × (length buf ≡ length buf₀) × (length staging ≡ 4096) × (total ≤ 4096 * i) × ((j : Job s d plan n ws wd to) → Up (j .source) (j .destination) s d c buf₀ background i buf total)
+Inv-loop buf₀ background c s d plan n ws wd words staging₀ total₀ i₀ buf staging total i =
+    (i ≤ c) × (length buf ≡ length buf₀) × (length staging ≡ 4096) × (total ≤ 4096 * i) × ((j : Job s d plan n ws wd words) → Up (j .source) (j .destination) s d c buf₀ background i buf total)
 
 abbrev μ-loop : tie.MeasureT-loop
-μ-loop buf₀ background c s d plan n ws wd to staging₀ total₀ i₀ buf staging total i = c - i
+μ-loop buf₀ background c s d plan n ws wd words staging₀ total₀ i₀ buf staging total i = c - i
 
 loop-holds : tie.Need-loop-holds Inv-loop μ-loop
 loop-holds c =

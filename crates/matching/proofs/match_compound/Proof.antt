@@ -13,5 +13,7 @@ match-compound-spec =
     (λ c. search compound-laws)
     (λ c κs. search compound-laws)
     (λ c. search compound-laws)
+    (λ c κs. search compound-laws)
+    (λ c κs. search compound-laws)
     (λ c. search compound-laws)
     (λ c. search compound-laws))

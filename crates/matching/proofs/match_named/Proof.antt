@@ -15,5 +15,6 @@ match-named-spec =
     (λ c κs. search named-laws)
     (λ c κs. search named-laws)
     (λ c. search named-laws)
+    (λ c κs. search named-laws)
     (λ c. search named-laws)
     (λ c. search named-laws))

@@ -14,6 +14,7 @@ match-step-spec =
     (λ c κs. search walk-laws)
     (λ c κs. search walk-laws)
     (λ c κs. search walk-laws)
+    (λ c κs. search walk-laws)
     (λ c. search walk-laws)
     (λ c. search walk-laws)
     returns-3

@@ -1,28 +1,21 @@
--- `one_leaf::enum_bits` meets its contract: a row that was found is one of the table's 256. Assumes nothing.
+-- `one_leaf::enum_bits` meets its contract. Assumes nothing.
+use Rattle.plans.proofs.LeafSteps.{enum-precision, enum-becomes}
 use borrow.Author.Needs.{needs}
-use Rattle.plans.proofs.LeafSteps.{row-below, row-found, row-missing}
 use Rattle.one_leaf.proofs.enum_bits.Statement.{statement}
 use Rattle.one_leaf.proofs.enum_bits.Tie as tie
 
-symbol-bits-requires : tie.Need-symbol-bits-requires
-symbol-bits-requires c κs = search (needs, row-below)
+enum-code-requires : tie.Need-enum-code-requires
+enum-code-requires c κs = search needs
+
+code-bits-requires : tie.Need-code-bits-requires
+code-bits-requires c κs =
+    let x = c .before .before .before .before .before in
+    enum-precision _ _ _ _ _ _ _ _ (x .pre .0) (x .pre .1)
 
 returns : tie.Need-returns
-returns c = search (needs, row-found)
-
-returns-2 : tie.Need-returns-2
-returns-2 c = search (needs, row-missing)
+returns c =
+    let x = c .before .before .before .before .before .before in
+    enum-becomes (x .args .src .now) _ _ _ _ _ _ _ (x .pre .0) (c .before .enum-code .ensures) (x .pre .1) (c .code-bits .ensures)
 
 pub enum-bits-spec : {M : Type 1} → statement M
-enum-bits-spec =
-    tie.close
-    (tie.spec
-    (λ c κs. search needs)
-    (λ c κs. search needs)
-    (λ c κs. search needs)
-    (λ c. search needs)
-    symbol-bits-requires
-    (λ c. search needs)
-    (λ c κs. search needs)
-    returns
-    returns-2)
+enum-bits-spec = tie.close (tie.spec enum-code-requires code-bits-requires returns)

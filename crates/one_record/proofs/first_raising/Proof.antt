@@ -10,11 +10,11 @@ use Rattle.one_record.proofs.first_raising.Statement.{statement}
 use Rattle.one_record.proofs.first_raising.Tie as tie
 
 abbrev Inv-loop : tie.InvT-loop
-Inv-loop src plan n ws wd to i₀ i =
-    (i ≤ n) × ((d : ℕ) (p : Ready (length src) d plan n ws wd to) → firstBy (entriesOf p) src ≡ firstBy (entriesFrom plan ws (p .sourceText) wd (p .destinationText) i (n - i)) src)
+Inv-loop src plan n ws wd words i₀ i =
+    (i ≤ n) × ((d : ℕ) (p : Ready (length src) d plan n ws wd words) → firstBy (entriesOf p) src ≡ firstBy (entriesFrom plan ws (p .sourceText) wd (p .destinationText) i (n - i)) src)
 
 abbrev μ-loop : tie.MeasureT-loop
-μ-loop src plan n ws wd to i₀ i = n - i
+μ-loop src plan n ws wd words i₀ i = n - i
 
 loop-holds : tie.Need-loop-holds Inv-loop μ-loop
 loop-holds c = (omega arith, λ d p. first-start _ _ _ _ _ _ _ p _)

@@ -10,11 +10,11 @@ use Rattle.one_record.proofs.write_record.Statement.{statement}
 use Rattle.one_record.proofs.write_record.Tie as tie
 
 abbrev Inv-loop : tie.InvT-loop
-Inv-loop src dst₀ plan n ws wd to raised₀ i₀ dst raised i =
-    (i ≤ n) × (length dst ≡ length dst₀) × (raised ≤ i) × ((p : Ready (length src) (length dst₀) plan n ws wd to) → Left p src dst₀ i dst raised)
+Inv-loop src dst₀ plan n ws wd words raised₀ i₀ dst raised i =
+    (i ≤ n) × (length dst ≡ length dst₀) × (raised ≤ i) × ((p : Ready (length src) (length dst₀) plan n ws wd words) → Left p src dst₀ i dst raised)
 
 abbrev μ-loop : tie.MeasureT-loop
-μ-loop src dst₀ plan n ws wd to raised₀ i₀ dst raised i = n - i
+μ-loop src dst₀ plan n ws wd words raised₀ i₀ dst raised i = n - i
 
 loop-holds : tie.Need-loop-holds Inv-loop μ-loop
 loop-holds c = (omega arith, refl, omega arith, λ p. left-start _ _ _ _ _ _ _ p _ _)

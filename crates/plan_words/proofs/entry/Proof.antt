@@ -8,4 +8,4 @@ returns : tie.Need-returns
 returns c = words-are (c .before .before .before .args .plan .now) (c .before .before .before .args .i) (c .before .at .ensures) (c .at2 .ensures)
 
 pub entry-spec : {M : Type 1} → statement M
-entry-spec = ?
+entry-spec = tie.close (tie.spec (λ c. search needs) (λ c κs. search needs) (λ c. search needs) (λ c. search needs) (λ c κs. search needs) returns)

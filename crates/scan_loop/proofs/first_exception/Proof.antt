@@ -15,11 +15,11 @@ use Rattle.scan_loop.proofs.first_exception.Statement.{statement}
 use Rattle.scan_loop.proofs.first_exception.Tie as tie
 
 abbrev Inv-loop : tie.InvT-loop
-Inv-loop src c s plan n ws wd to i₀ i =
-    (i ≤ c) × ((d : ℕ) (j : Job s d plan n ws wd to) → stopBy (planOf (j .source) (j .destination)) s src 0 c ≡ stopBy (planOf (j .source) (j .destination)) s src i (c - i))
+Inv-loop src c s plan n ws wd words i₀ i =
+    (i ≤ c) × ((d : ℕ) (j : Job s d plan n ws wd words) → stopBy (planOf (j .source) (j .destination)) s src 0 c ≡ stopBy (planOf (j .source) (j .destination)) s src i (c - i))
 
 abbrev μ-loop : tie.MeasureT-loop
-μ-loop src c s plan n ws wd to i₀ i = c - i
+μ-loop src c s plan n ws wd words i₀ i = c - i
 
 loop-holds : tie.Need-loop-holds Inv-loop μ-loop
 loop-holds c =

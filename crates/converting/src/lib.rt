@@ -1,0 +1,96 @@
+// The records of a call, behind its checks and with its plan made.
+ghost use mathlib.Core.Path.{_≡_};
+ghost use Prim.Native.Nat.{_*_, _≤_};
+ghost use lib.ListN.{length};
+ghost use Rattle.records.specs.Plan.{planOf};
+ghost use Rattle.plans.specs.PlanWords.{Job};
+ghost use Rattle.loops.specs.Stops.{stopBy};
+ghost use Rattle.runs.specs.Run.Checked.{passed};
+ghost use Rattle.conversion.specs.Call.{sourceOf, backgroundOf, HasRecords, ConvertsIn, LeavesIn};
+use answer::Answer;
+use copy_loop::copy_records;
+use in_place_loop::replace_records;
+use loops::Stop;
+use scan_loop::first_exception;
+
+// Converts the records in the buffer `out`, in place or from the buffer `other`, and counts the exceptions.
+fn convert_records(
+    in_place: bool,
+    out: &mut [u8],
+    other: &[u8],
+    c: usize,
+    s: usize,
+    d: usize,
+    plan: &[u32],
+    n: usize,
+    ws: &[u32],
+    wd: &[u32],
+    words: &[u32],
+) -> u64
+    requires { ⌜ Job s d (now plan) n (now ws) (now wd) (now words) × HasRecords «in_place» c s d (length (now out)) (length (now other)) ⌝ }
+    ensures { λ r. ⌜ ((j : Job s d (now (plan .entry)) n (now (ws .entry)) (now (wd .entry)) (now (words .entry))) → ConvertsIn «in_place» (j .source) (j .destination) c (now (out .entry)) (now (other .entry)) (now (out .exit)) r) ⌝ }
+{
+    if in_place {
+        return replace_records(out, other, c, s, d, plan, n, ws, wd, words);
+    }
+    copy_records(other, out, c, s, d, plan, n, ws, wd, words)
+}
+
+// The first exception of the records.
+fn first_stop(
+    in_place: bool,
+    out: &[u8],
+    other: &[u8],
+    c: usize,
+    s: usize,
+    plan: &[u32],
+    n: usize,
+    ws: &[u32],
+    wd: &[u32],
+    words: &[u32],
+) -> Stop
+    requires { ⌜ ((d : ℕ) × Job s d (now plan) n (now ws) (now wd) (now words) × HasRecords «in_place» c s d (length (now out)) (length (now other))) ⌝ }
+    ensures { λ r. ⌜ ((d : ℕ) (j : Job s d (now (plan .entry)) n (now (ws .entry)) (now (wd .entry)) (now (words .entry))) → r ≡ stopBy (planOf (j .source) (j .destination)) s (sourceOf «in_place» (now (out .entry)) (now (other .entry))) 0 c) ⌝ }
+{
+    if in_place {
+        return first_exception(out, c, s, plan, n, ws, wd, words);
+    }
+    first_exception(other, c, s, plan, n, ws, wd, words)
+}
+
+// Handling 0 converts; handling 1 looks for the first exception before it writes anything.
+pub fn convert_planned(
+    in_place: bool,
+    handling: u32,
+    out: &mut [u8],
+    other: &[u8],
+    c: usize,
+    s: usize,
+    d: usize,
+    plan: &[u32],
+    n: usize,
+    ws: &[u32],
+    wd: &[u32],
+    words: &[u32],
+) -> Answer
+    requires { ⌜ Job s d (now plan) n (now ws) (now wd) (now words) × HasRecords «in_place» c s d (length (now out)) (length (now other)) × (handling ≤ 1) ⌝ }
+    ensures { λ r. ⌜ ((j : Job s d (now (plan .entry)) n (now (ws .entry)) (now (wd .entry)) (now (words .entry))) → LeavesIn «in_place» handling c (now (out .entry)) (now (other .entry)) (passed (j .source) (j .destination)) r (now (out .exit))) ⌝ }
+{
+    if handling != 0 {
+        if let Stop::At(i, b, kind) = first_stop(
+            in_place,
+            out,
+            other,
+            c,
+            s,
+            plan,
+            n,
+            ws,
+            wd,
+            words,
+        ) {
+            return Answer::Stop(i, b, kind);
+        }
+    }
+    Answer::Done(convert_records(in_place, out, other, c, s, d, plan, n, ws, wd, words))
+}
