@@ -1,30 +1,23 @@
 // Which rows of a destination enum stand for which significant bits of a source enum: worked out once a call, so that no name is compared in a record.
 ghost use mathlib.Core.Path.{_≡_};
-ghost use Prim.Native.Nat.{_+_, _-_, _^_, _≤_, _<_, min, max};
+ghost use Prim.Native.Nat.{_+_, _^_, _≤_, _<_, min, max};
 ghost use lib.ListN.{length};
-ghost use Rattle.number.specs.Number.{bitsOf};
-ghost use Rattle.table.specs.Table.{firstWord, rowsWord, layoutAt, nameAt, valueAt};
+ghost use Rattle.table.specs.Table.{firstWord, rowsWord, layoutAt, nameAt};
 ghost use Rattle.table.specs.Rows.{rowNamed};
-ghost use Rattle.plans.specs.PlanWords.{RowsWithin, symbolRows, numberRow, rowCode, translatedCode};
+ghost use Rattle.plans.specs.PlanWords.{RowsWithin, numberRow, rowCode, translatedCode};
 ghost use Rattle.plans.specs.Spans.{RowsIn, SymbolsFormed, SpanPut};
 ghost use Rattle.enum_spans.specs.Span.{SpanFound};
-use bits::shift::ones;
 use number::sign::number_of;
 use number::sign::split;
+use row_codes::symbol_rows;
+use row_codes::value_bits;
 use row_lookup::row_named;
 use row_lookup::row_numbered;
-use table::CLASS;
-use table::ENUM;
 use table::FIRST;
 use table::Found;
-use table::HIGH;
 use table::NAME;
 use table::NAME_LENGTH;
 use table::ROWS;
-use table::VALUE_HIGH;
-use table::VALUE_LOW;
-use table::VALUE_SIGN;
-use table::codes::flag_of;
 use table::read::layout_at;
 use table::read::row_word;
 use table::read::type_word;
@@ -48,13 +41,6 @@ struct Ends {
     end: u64,
 }
 
-// a - b, and 0 where b is larger.
-fn minus(a: u64, b: u64) -> u64
-    ensures { λ r. ⌜ r ≡ a - b ⌝ }
-{
-    if b < a { a - b } else { 0 }
-}
-
 fn least(a: u64, b: u64) -> u64
     ensures { λ r. ⌜ r ≡ min a b ⌝ }
 {
@@ -65,31 +51,6 @@ fn greatest(a: u64, b: u64) -> u64
     ensures { λ r. ⌜ r ≡ max a b ⌝ }
 {
     if a < b { b } else { a }
-}
-
-// The significant bits of the number in row j, in an enum of this precision.
-pub fn value_bits(w: &[u32], j: usize, precision: u32) -> u64
-    requires { ⌜ precision ≤ 64 ⌝ }
-    ensures { λ r. ⌜ r ≡ bitsOf precision (valueAt (now (w .entry)) j) ⌝ }
-{
-    let low = row_word(w, j, VALUE_LOW);
-    let high = row_word(w, j, VALUE_HIGH);
-    let distance = (low + high * HIGH) as u64;
-    if flag_of(row_word(w, j, VALUE_SIGN)) {
-        return minus(ones(precision), distance);
-    }
-    distance
-}
-
-// How many symbols type k has.
-pub fn symbol_rows(w: &[u32], k: usize) -> usize
-    ensures { λ r. ⌜ (r ≡ symbolRows (now (w .entry)) k) × (r ≤ rowsWord (now (w .entry)) k) ⌝ }
-{
-    if type_word(w, k, CLASS) == ENUM {
-        type_word(w, k, ROWS)
-    } else {
-        0
-    }
 }
 
 // The row of type s whose number these significant bits stand for.

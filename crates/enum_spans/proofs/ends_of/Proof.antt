@@ -1,5 +1,5 @@
 -- `enum_spans::ends_of` meets its contract. The loop's invariant: the rows before q are between `low` and `end`. Assumes nothing.
-use Prim.Native.Nat.{_^_, _≤_, _<_, _-_}
+use Prim.Native.Nat.{_-_, _^_, _≤_, _<_}
 use native.Mathlib.Omega.{arith}
 use lib.Pow.{pow-mono}
 use Rattle.plans.specs.Spans.{RowsIn}

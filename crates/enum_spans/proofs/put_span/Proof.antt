@@ -1,7 +1,6 @@
 -- `enum_spans::put_span` meets its contract. The loop's invariant: the first q words of the span are put. Assumes nothing.
-use Prim.Native.Nat.{_≤_, _<_, _-_}
+use Prim.Native.Nat.{_-_, _≤_}
 use native.Mathlib.Omega.{arith}
-use lib.ListN.{length}
 use Rattle.plans.specs.Spans.{SpanPut}
 use Rattle.plans.proofs.Spans.{span-begins, span-more, span-all}
 use Rattle.enum_spans.proofs.put_span.Statement.{statement}
