@@ -86,7 +86,7 @@ leaf-symbols w t k = go (eqb (classWord w k) 2)
     go true = refl
     go false = refl
 
-leaf-enum : (w t : List ℕ) (k : ℕ) → classWord w k ≡ 2 → leafOfType w t k ≡ enumeration (layoutAt w k) (symbolsAt w t (firstWord w k) (rowsWord w k))
+pub leaf-enum : (w t : List ℕ) (k : ℕ) → classWord w k ≡ 2 → leafOfType w t k ≡ enumeration (layoutAt w k) (symbolsAt w t (firstWord w k) (rowsWord w k))
 unfolding leafOfType
 leaf-enum w t k e = rw (eq-eqb (classWord w k) 2 e)
 
@@ -151,7 +151,7 @@ looked-missing words ws wd z s d rf rr e q = rw (← (rf .is), ← (rr .0), ← 
 
 -- ---- a number in range keeps its bits
 
-inside-bits : (l : Layout) (z : ℤ) → fitted l z .kind ≡ 0 → record { raw = bitsOf (l .precision) z; kind = 0 } ≡ fitted l z
+pub inside-bits : (l : Layout) (z : ℤ) → fitted l z .kind ≡ 0 → record { raw = bitsOf (l .precision) z; kind = 0 } ≡ fitted l z
 inside-bits l z e = go (ltZ (largest (l .signed) (l .precision)) z) (ltZ z (smallest (l .signed) (l .precision))) e
   where
     go : (a b : Bool)

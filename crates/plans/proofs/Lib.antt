@@ -2,5 +2,6 @@ pub mod Names
 pub mod LeafSteps
 pub mod Entries
 pub mod OneEntry
+pub mod Spans
 pub mod EnumWords
 pub mod EasyLeaves

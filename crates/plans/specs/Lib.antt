@@ -1,3 +1,4 @@
 pub mod PlanWords
 pub mod LeafSteps
 pub mod PlanEntries
+pub mod Spans

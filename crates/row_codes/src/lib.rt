@@ -38,7 +38,7 @@ fn minus(a: u64, b: u64) -> u64
 }
 
 // The significant bits of the number in row j, in an enum of this precision.
-fn value_bits(w: &[u32], j: usize, precision: u32) -> u64
+pub fn value_bits(w: &[u32], j: usize, precision: u32) -> u64
     requires { ⌜ precision ≤ 64 ⌝ }
     ensures { λ r. ⌜ r ≡ bitsOf precision (valueAt (now (w .entry)) j) ⌝ }
 {
@@ -92,7 +92,7 @@ pub fn span_code(words: &[u32], k: usize, raw: u64) -> usize
 }
 
 // How many symbols type k has.
-fn symbol_rows(w: &[u32], k: usize) -> usize
+pub fn symbol_rows(w: &[u32], k: usize) -> usize
     ensures { λ r. ⌜ (r ≡ symbolRows (now (w .entry)) k) × (r < 4294967296) ⌝ }
 {
     if type_word(w, k, CLASS) == ENUM {

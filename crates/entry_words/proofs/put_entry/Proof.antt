@@ -1,0 +1,25 @@
+-- `entry_words::put_entry` meets its contract: by the class of the destination. Assumes nothing.
+use borrow.Author.Needs.{needs}
+use Rattle.plans.proofs.Spans.{put-plain}
+use Rattle.entry_words.proofs.put_entry.Statement.{statement}
+use Rattle.entry_words.proofs.put_entry.Tie as tie
+
+returns-2 : tie.Need-returns-2
+returns-2 c =
+    let p = c .before .before in
+    let i = p .before .before in
+    let t = i .before in
+    let x = t .before .before .before .before .before .before in
+    (put-plain _ _ _ _ _ _ _ _ _ (x .pre .1) (t .type-word .ensures) (i .if1 .left) (p .put-plain .ensures), x .pre .1 .within)
+
+pub put-entry-spec : {M : Type 1} → statement M
+put-entry-spec =
+    tie.close
+    (tie.spec
+    (λ c κs. search needs)
+    (λ c κs. search needs)
+    (λ c. search needs)
+    (λ c. search needs)
+    (λ c κs. search needs)
+    (λ c. search needs)
+    returns-2)

@@ -1,0 +1,54 @@
+-- `enum_spans::named_row` meets its contract: a row that was found is below 256, so it fits a word. Assumes nothing.
+use mathlib.Core.Path.{sym, ap, _∙_}
+use native.Mathlib.Omega.{arith}
+use borrow.Author.Needs.{needs}
+use Rattle.plans.specs.PlanWords.{rowCode}
+use Rattle.plans.proofs.Spans.{row-small, named-code}
+use Rattle.enum_spans.proofs.named_row.Statement.{statement}
+use Rattle.enum_spans.proofs.named_row.Tie as tie
+
+cast-result : tie.Need-cast-result
+cast-result c =
+    let f = c .before .before .before in
+    let t = f .before .before .before in
+    let low = row-small _ _ _ _ (f .row-named .ensures) (c .before .row .given .1) (t .before .type-word .ensures) (t .type-word2 .ensures) (t .before .before .before .before .before .before .pre) in
+    omega (arith, low)
+
+add-result : tie.Need-add-result
+add-result c =
+    let f = c .before .before .before in
+    let t = f .before .before .before in
+    let low = row-small _ _ _ _ (f .row-named .ensures) (c .before .row .given .1) (t .before .type-word .ensures) (t .type-word2 .ensures) (t .before .before .before .before .before .before .pre) in
+    omega (arith, low)
+
+returns : tie.Need-returns
+returns c =
+    let f = c .before .before .before in
+    let t = f .before .before .before in
+    let a = t .before .before .before .before .before .before .args in
+    ap rowCode (sym (c .before .row .given .1))
+    ∙ named-code (a .ws .now) (a .ts .now) (a .wd .now) (a .td .now) (a .d) (a .j) (t .before .type-word .ensures) (t .type-word2 .ensures) (f .before .before .row-word .ensures) (f .before .row-word2 .ensures) (f .row-named .ensures)
+
+returns-2 : tie.Need-returns-2
+returns-2 c =
+    let f = c .before .before in
+    let t = f .before .before .before in
+    let a = t .before .before .before .before .before .before .args in
+    ap rowCode (sym (c .enum-told .given .1))
+    ∙ named-code (a .ws .now) (a .ts .now) (a .wd .now) (a .td .now) (a .d) (a .j) (t .before .type-word .ensures) (t .type-word2 .ensures) (f .before .before .row-word .ensures) (f .before .row-word2 .ensures) (f .row-named .ensures)
+
+pub named-row-spec : {M : Type 1} → statement M
+named-row-spec =
+    tie.close
+    (tie.spec
+    (λ c κs. search needs)
+    (λ c κs. search needs)
+    (λ c κs. search needs)
+    (λ c κs. search needs)
+    (λ c κs. search needs)
+    (λ c. search needs)
+    cast-result
+    add-result
+    (λ c. search needs)
+    returns
+    returns-2)

@@ -1,0 +1,488 @@
+-- The rows of enums by significant bits, and the spans in which they stand. Assumes nothing.
+use mathlib.Core.Path.{_≡_, refl, sym, ap, subst, _∙_}
+use mathlib.Core.Bool.{Bool, true, false, cond, _&&_, false≢true}
+use mathlib.Core.Logic.{⊎-elim}
+use mathlib.Core.List.{List, [], _∷_}
+use Prim.Native.Nat.{ℕ, zero, suc, _+_, _*_, _-_, _^_, _≤_, _<_, min, max}
+use native.Mathlib.Nat.{le-refl, lt-of-not-le, eq-or-lt-of-le}
+use native.Mathlib.Decide.{decLe}
+use native.Mathlib.Omega.{arith}
+use lib.Dec.{eqb, leb, ltb}
+use lib.IntN.{ℤ}
+use lib.ListN.{length, getD, set, length-set, replicate}
+use lib.Seq.{getD-set-same, getD-set-other}
+use borrow.Author.Count.{below-more}
+use borrow.Author.Tests.{eqb-true, leb-true, ltb-true, le-leb, lt-ltb}
+use Rattle.layout.specs.declared.Layout.{Layout}
+use Rattle.layout.specs.Layout.{valid, Valid}
+use Rattle.number.specs.declared.Number.{Number}
+use Rattle.number.specs.declared.Parts.{Parts}
+use Rattle.number.specs.declared.Fitted.{Fitted}
+use Rattle.number.specs.Number.{valued, bitsOf}
+use Rattle.number.specs.Parts.{meaning, signedBy}
+use Rattle.number.proofs.Range.{valued-low, valued-high}
+use Rattle.number.proofs.RoundTrip.{fitted-lt}
+use Rattle.datatype.specs.Symbols.{sameNumber}
+use Rattle.datatype.specs.WellFormed.{WellFormedLeaf, Symbols}
+use Rattle.datatype.proofs.Tests.{sameNumber→eq}
+use Rattle.table.specs.declared.Found.{Found}
+use Rattle.table.specs.declared.Found.the-variants.{At, Missing}
+use Rattle.table.specs.Table.{rowWord, classWord, firstWord, rowsWord, layoutAt, bytesAt, nameAt, valueAt, symbolsAt}
+use Rattle.table.specs.Words.{Reads}
+use Rattle.table.specs.Records.{orderCode}
+use Rattle.table.specs.Rows.{rowNamed, rowNumbered}
+use Rattle.entry_code.specs.Code.{packed, routeIn, shiftIn, precisionIn, sizeIn, orderIn, bitsIn}
+use Rattle.entry_code.proofs.Packed.{route-back, shift-back, precision-back, size-back, order-back, bits-back}
+use Rattle.easy.specs.Easy.{easy, shiftOf, easyWords, withWords, wordsOf}
+use Rattle.easy.proofs.Easy.{shift-small, order-small}
+use Rattle.easy.proofs.Words.{words-length, words-below, words-above, words-at, easy-stands, easy-route}
+use Rattle.plans.specs.PlanWords.{RowsWithin, symbolRows, numberRow, rowCode, namedCode, translatedCode, sourceType, destinationType, wordsPlace, spanCode, EnumAt}
+use Rattle.plans.specs.PlanEntries.{PairFormed, Standing, EntryPut}
+use Rattle.plans.specs.Spans.{RowsIn, SymbolsFormed, SpanOf, SpanPut, SpanWord, EntryRoom, AllStanding}
+use Rattle.plans.proofs.Names.{numbered-within, named-within}
+use Rattle.plans.proofs.LeafSteps.{leaf-enum, leaf-valid, inside-bits}
+
+-- ---- the row that was found
+
+numbered-value : (w : List ℕ) (z : ℤ) (first n j : ℕ) → rowNumbered w z first n ≡ At j → valueAt w j ≡ z
+unfolding rowNumbered
+numbered-value w z first zero j e = let no : _≡_ {A = ℕ} 0 1 = cc in absurd (omega arith)
+numbered-value w z first (suc n) j e = go (numbered-value w z first n j) (sameNumber z (valueAt w (first + n))) refl e
+  where
+    go : (rowNumbered w z first n ≡ At j → valueAt w j ≡ z) → (b : Bool) → sameNumber z (valueAt w (first + n)) ≡ b
+        → cond b (At (first + n)) (rowNumbered w z first n) ≡ At j → valueAt w j ≡ z
+    go later true q h =
+        let i : first + n ≡ j = cc in
+        rw (← i) (sym (sameNumber→eq z (valueAt w (first + n)) q))
+    go later false q h = later h
+
+pub row-small : (w t x : List ℕ) (k : ℕ) {first n j : ℕ} {f : Found} → f ≡ rowNamed w t x first n → f ≡ At j → Reads (firstWord w k) first → Reads (rowsWord w k) n → RowsWithin w k
+    → j < 256
+row-small w t x k {first} {n} {j} e q rf rr h = omega (arith, named-within w t x first n j (sym e ∙ q) .1, rf .is, rr .is)
+
+-- the row that has the name of source row j, in one word
+pub named-code : (ws ts wd td : List ℕ) (d j : ℕ) {first rows start len : ℕ} {f : Found} → Reads (firstWord wd d) first → Reads (rowsWord wd d) rows
+    → Reads (rowWord ws j 0) start → Reads (rowWord ws j 1) len → f ≡ rowNamed wd td (bytesAt ts start len) first rows
+    → rowCode f ≡ rowCode (rowNamed wd td (nameAt ws ts j) (firstWord wd d) (rowsWord wd d))
+named-code ws ts wd td d j rf rr rs rl e = rw (← (rf .is), ← (rr .is), ← (rs .is), ← (rl .is), e)
+
+-- the row by its number
+pub number-found : (ws : List ℕ) (s raw : ℕ) {first rows : ℕ} {l : Layout} (n : Number) (z : Parts) {f : Found} → Reads (firstWord ws s) first
+    → (rows ≡ symbolRows ws s) × (rows < 4294967296) → l ≡ layoutAt ws s → meaning n ≡ valued (l .signed) (l .precision) raw
+    → meaning n ≡ signedBy (z .negative) (z .distance) → f ≡ rowNumbered ws (signedBy (z .negative) (z .distance)) first rows → f ≡ numberRow ws s raw
+unfolding numberRow
+number-found ws s raw n z rf rr el hn hz e = e ∙ rw (← (rf .is), ← (rr .0), ← el, ← hn, hz)
+
+pub code-is : (ws ts wd td : List ℕ) (s d raw : ℕ) {f g : Found} → f ≡ numberRow ws s raw → f ≡ g → namedCode ws ts wd td d g ≡ translatedCode ws ts wd td s d raw
+unfolding translatedCode
+code-is ws ts wd td s d raw e q = ap (namedCode ws ts wd td d) (sym q ∙ e)
+
+-- ---- significant bits of symbols
+
+valued-back : (s : Bool) (p r : ℕ) → r < 2 ^ p → bitsOf p (valued s p r) ≡ r
+valued-back false p r h = refl
+valued-back true p r h = elim (decLe (2 ^ (p - 1)) r) [ yes t ↦ rw (valued-high p r t) (omega arith) | no f ↦ rw (valued-low p r (lt-of-not-le f)) ]
+
+-- bits that no symbol has
+bits-missing : (w : List ℕ) (k raw : ℕ) → raw < 2 ^ layoutAt w k .precision
+    → ((q : ℕ) → q < symbolRows w k → bitsOf (layoutAt w k .precision) (valueAt w (firstWord w k + q)) ≡ raw → ⊥) → numberRow w k raw ≡ Missing
+unfolding numberRow
+bits-missing w k raw h none = go (rowNumbered w z (firstWord w k) (symbolRows w k)) refl
+  where
+    z : ℤ
+    z = valued (layoutAt w k .signed) (layoutAt w k .precision) raw
+
+    go : (f : Found) → rowNumbered w z (firstWord w k) (symbolRows w k) ≡ f → f ≡ Missing
+    go (At j) e =
+        let in-rows = numbered-within w z (firstWord w k) (symbolRows w k) j e in
+        let at : firstWord w k + (j - firstWord w k) ≡ j = omega (arith, in-rows .0) in
+        absurd
+        (none (j - firstWord w k) (omega (arith, in-rows .0, in-rows .1))
+        (rw (at, numbered-value w z (firstWord w k) (symbolRows w k) j e) (valued-back (layoutAt w k .signed) (layoutAt w k .precision) raw h)))
+    go Missing e = refl
+
+listed-bits : (l : Layout) (w t : List ℕ) (first n : ℕ) → 1 ≤ l .precision → Symbols l (symbolsAt w t first n) → RowsIn w (l .precision) first n 0 (2 ^ l .precision)
+unfolding symbolsAt
+listed-bits l w t first zero some h q low = absurd (omega arith)
+listed-bits l w t first (suc n) some h q low =
+    ⊎-elim
+    (λ (e : q ≡ n). rw e (omega arith, rw (ap (λ (f : Fitted). f .raw) (inside-bits l (valueAt w (first + n)) (h .0 .in-range))) (fitted-lt (l .signed) (l .precision) (valueAt w (first + n)) some)))
+    (λ (less : q < n). listed-bits l w t first n some (h .1) q less)
+    (eq-or-lt-of-le (omega arith))
+
+pub symbols-formed : (ws ts wd td : List ℕ) (s d : ℕ) → PairFormed ws ts wd td s d → SymbolsFormed ws s
+unfolding symbolRows
+symbols-formed ws ts wd td s d f =
+    let v = leaf-valid ws ts s (f .source) in
+    record { within = f .sourceRows; some = v .some; most = v .most; bits = go (eqb (classWord ws s) 2) refl }
+  where
+    go : (b : Bool) → eqb (classWord ws s) 2 ≡ b → RowsIn ws (layoutAt ws s .precision) (firstWord ws s) (cond b (rowsWord ws s) 0) 0 (2 ^ layoutAt ws s .precision)
+    go true e =
+        listed-bits (layoutAt ws s) ws ts (firstWord ws s) (rowsWord ws s) (leaf-valid ws ts s (f .source) .some)
+        (subst WellFormedLeaf (leaf-enum ws ts s (eqb-true (classWord ws s) 2 e)) (f .source) .symbols)
+    go false e = λ q low. absurd (omega arith)
+
+pub pair-valid : (ws ts wd td : List ℕ) (s d : ℕ) → PairFormed ws ts wd td s d → Valid (layoutAt ws s) × Valid (layoutAt wd d)
+pair-valid ws ts wd td s d f = (leaf-valid ws ts s (f .source), leaf-valid wd td d (f .destination))
+
+-- ---- the span of a type's symbols
+
+-- one row more
+pub rows-more : (w : List ℕ) (p first n : ℕ) {low end low' end' b : ℕ} → RowsIn w p first n low end → b ≡ bitsOf p (valueAt w (first + n)) → low' ≡ min low b → end' ≡ max end (b + 1)
+    → RowsIn w p first (n + 1) low' end'
+rows-more w p first n {low} {end} {low'} {end'} all e el ee =
+    below-more (λ (q : ℕ). (low' ≤ bitsOf p (valueAt w (first + q))) × (bitsOf p (valueAt w (first + q)) < end')) n
+    (λ q h. (omega (arith, all q h .0), omega (arith, all q h .1)))
+    (omega arith, omega arith)
+
+symbols-most : (w : List ℕ) (k : ℕ) → symbolRows w k ≤ rowsWord w k
+unfolding symbolRows
+symbols-most w k = go (eqb (classWord w k) 2)
+  where
+    go : (b : Bool) → cond b (rowsWord w k) 0 ≤ rowsWord w k
+    go true = le-refl (rowsWord w k)
+    go false = omega arith
+
+-- the rows of type k, read by the code
+module _ (w : List ℕ) (k : ℕ) {first rows : ℕ} {l : Layout} (rf : Reads (firstWord w k) first) (rr : (rows ≡ symbolRows w k) × (rows < 4294967296)) (el : l ≡ layoutAt w k) where
+  pub rows-asked : SymbolsFormed w k → l .precision ≤ 32 → (first + rows ≤ 256) × (l .precision ≤ 32) × RowsIn w (l .precision) first rows 0 (2 ^ l .precision)
+  rows-asked f low = (omega (arith, f .within, rf .is, rr .0, symbols-most w k), low, rw (el, rf .is, rr .0) (f .bits))
+
+  module _ {low end : ℕ} (all : RowsIn w (l .precision) first rows low end) where
+    told : RowsIn w (layoutAt w k .precision) (firstWord w k) (symbolRows w k) low end
+    told = rw (← el, ← (rf .is), ← (rr .0)) all
+
+    pub span-some : (room : ℕ) {most : ℕ} → low ≤ end → end ≤ 2 ^ l .precision → most ≡ min room 256 → end - low ≤ most → SpanOf w k room low (end - low)
+    span-some room some inside e few =
+        record {
+          few = omega arith;
+          inside = rw (← el) (omega arith);
+          outside = λ raw h not. bits-missing w k raw h (λ q s e. not (omega (arith, told q s .0)) (omega (arith, told q s .1)));
+        }
+
+    pub span-none : (room : ℕ) → end ≤ low → SpanOf w k room 0 0
+    span-none room none =
+        record {
+          few = omega arith;
+          inside = omega arith;
+          outside = λ raw h not. bits-missing w k raw h (λ q s e. omega (arith, told q s .0, told q s .1));
+        }
+
+-- ---- the words of a span
+
+pub span-begins : (before : List ℕ) (base low : ℕ) (ws ts wd td : List ℕ) (s d : ℕ) → SpanPut before base low 0 ws ts wd td s d before
+span-begins before base low ws ts wd td s d = record { each = λ q h. absurd (omega arith); below = λ j h. refl; above = λ j h. refl; long = refl }
+
+pub span-more : (before : List ℕ) (base low q : ℕ) (ws ts wd td : List ℕ) (s d : ℕ) (mid : List ℕ) {v : ℕ} → SpanPut before base low q ws ts wd td s d mid → base + q < length mid
+    → v ≡ translatedCode ws ts wd td s d (low + q) → SpanPut before base low (q + 1) ws ts wd td s d (set mid (base + q) v)
+span-more before base low q ws ts wd td s d mid {v} p room e =
+    record {
+      each =
+          below-more (λ (i : ℕ). getD (set mid (base + q) v) (base + i) 0 ≡ translatedCode ws ts wd td s d (low + i)) q
+          (λ i h. getD-set-other mid (base + q) (base + i) v 0 (λ g. omega (arith, g)) ∙ p .each i h)
+          (getD-set-same mid (base + q) v 0 room ∙ e);
+      below = λ j h. getD-set-other mid (base + q) j v 0 (λ g. omega (arith, g)) ∙ p .below j h;
+      above = λ j h. getD-set-other mid (base + q) j v 0 (λ g. omega (arith, g)) ∙ p .above j (omega arith);
+      long = length-set mid (base + q) v ∙ p .long;
+    }
+
+pub span-all : (before : List ℕ) (base low : ℕ) (ws ts wd td : List ℕ) (s d : ℕ) (after : List ℕ) {q count : ℕ} → q ≤ count → count ≤ q → SpanPut before base low q ws ts wd td s d after
+    → SpanPut before base low count ws ts wd td s d after
+span-all before base low ws ts wd td s d after {q} {count} most least p =
+    let e : q ≡ count = omega arith in
+    subst (λ (n : ℕ). SpanPut before base low n ws ts wd td s d after) e p
+
+-- ---- the words of an entry, kept or copied
+
+both : (a b : Bool) → (a && b) ≡ true → (a ≡ true) × (b ≡ true)
+both true b h = (refl, h)
+both false b h = absurd (false≢true h)
+
+enum-moved : (l m : Layout) (v w : List ℕ) (k h : ℕ) → getD v k 0 ≡ getD w h 0 → EnumAt l m w h → EnumAt l m v k
+enum-moved l m v w k h first e =
+    record {
+      source = e .source;
+      destination = e .destination;
+      lowest = e .lowest;
+      whole = e .whole;
+      order = ap routeIn first ∙ e .order;
+      shift = ap shiftIn first ∙ e .shift;
+      precision = ap precisionIn first ∙ e .precision;
+      size = ap sizeIn first ∙ e .size;
+      destinationOrder = ap orderIn first ∙ e .destinationOrder;
+      bits = ap bitsIn first ∙ e .bits;
+    }
+
+-- what stands from word h of w on stands from word k of v on, where the entry's words are the same, and the words of spans
+module _ (v w : List ℕ) (k h start free : ℕ) (same : (q : ℕ) → q < 4 → getD v (k + q) 0 ≡ getD w (h + q) 0) (kept : (j : ℕ) → start ≤ j → j < free → getD v j 0 ≡ getD w j 0) where
+  first : getD v k 0 ≡ getD w h 0
+  first =
+      let a : k + 0 ≡ k = omega arith in
+      let b : h + 0 ≡ h = omega arith in
+      rw (a, b) at (same 0 (omega arith))
+
+  span-moved : (raw : ℕ) → (start ≤ getD w (h + 3) 0) × (getD w (h + 3) 0 + getD w (h + 2) 0 ≤ free) → spanCode v k raw ≡ spanCode w h raw
+  unfolding spanCode
+  span-moved raw inside =
+      rw (same 1 (omega arith), same 2 (omega arith), same 3 (omega arith))
+      (go (leb (getD w (h + 1) 0) raw && ltb (raw - getD w (h + 1) 0) (getD w (h + 2) 0)) refl)
+    where
+      go : (t : Bool) → (leb (getD w (h + 1) 0) raw && ltb (raw - getD w (h + 1) 0) (getD w (h + 2) 0)) ≡ t
+          → cond t (getD v (getD w (h + 3) 0 + (raw - getD w (h + 1) 0)) 0) 0 ≡ cond t (getD w (getD w (h + 3) 0 + (raw - getD w (h + 1) 0)) 0) 0
+      go true e =
+          let low = ltb-true (raw - getD w (h + 1) 0) (getD w (h + 2) 0) (both (leb (getD w (h + 1) 0) raw) (ltb (raw - getD w (h + 1) 0) (getD w (h + 2) 0)) e .1) in
+          kept (getD w (h + 3) 0 + (raw - getD w (h + 1) 0)) (omega (arith, inside .0)) (omega (arith, inside .1, low))
+      go false e = refl
+
+  pub standing-moved : (ws ts wd td : List ℕ) (s d : ℕ) → Standing w h start free ws ts wd td s d → Standing v k start free ws ts wd td s d
+  standing-moved ws ts wd td s d x =
+      record {
+        entry =
+            record {
+              plain = λ low. x .entry .plain (rw first at low);
+              easy = λ some low. rw (first, same 1 (omega arith), same 2 (omega arith)) (x .entry .easy (rw first at some) (rw first at low));
+              enum = λ high. x .entry .enum (rw first at high);
+              fast = λ high low. enum-moved (layoutAt ws s) (layoutAt wd d) v w k h first (x .entry .fast (rw first at high) (rw first at low));
+              span =
+                  λ high low.
+                  let g = x .entry .span (rw first at high) (rw first at low) in
+                  record {
+                    is = λ raw fits. span-moved raw (x .bounds (rw first at high) (rw first at low)) ∙ g .is raw fits;
+                    high = rw (same 3 (omega arith)) (g .high);
+                  };
+            };
+        bounds = λ high low. rw (same 2 (omega arith), same 3 (omega arith)) (x .bounds (rw first at high) (rw first at low));
+      }
+
+standing-wider : (w : List ℕ) (k start free start' free' : ℕ) (ws ts wd td : List ℕ) (s d : ℕ) → start' ≤ start → free ≤ free' → Standing w k start free ws ts wd td s d
+    → Standing w k start' free' ws ts wd td s d
+standing-wider w k start free start' free' ws ts wd td s d hs hf x =
+    record { entry = x .entry; bounds = λ high low. let b = x .bounds high low in (omega (arith, b .0), omega (arith, b .1)) }
+
+-- ---- the words of one entry are put
+
+put-by : (w : List ℕ) (xs : List ℕ) (k q : ℕ) → length xs ≡ 4 → k + 4 ≤ length w → q < 4 → getD (withWords w k xs) (k + q) 0 ≡ getD xs q 0
+put-by w xs k q e room low = words-at xs w k q (omega (arith, e)) (omega (arith, e))
+
+put-first : (w : List ℕ) (a : ℕ) (xs : List ℕ) (k : ℕ) → length (a ∷ xs) ≡ 4 → k + 4 ≤ length w → getD (withWords w k (a ∷ xs)) k 0 ≡ a
+put-first w a xs k e room =
+    let z : k + 0 ≡ k = omega arith in
+    rw z at (put-by w (a ∷ xs) k 0 e room (omega arith))
+
+easy-four : (l m : Layout) → length (easyWords l m) ≡ 4
+easy-four l m = go (valid l && (valid m && easy l m))
+  where
+    go : (t : Bool) → length (cond t (wordsOf l m) (replicate 4 0)) ≡ 4
+    go true = refl
+    go false = refl
+
+-- a destination that is no enum
+pub put-plain : (before : List ℕ) (k free : ℕ) (ws ts wd td : List ℕ) (s d : ℕ) {after : List ℕ} {c : ℕ} → EntryRoom (length before) k free → Reads (classWord wd d) c → (c ≡ 2 → ⊥)
+    → after ≡ withWords before k (easyWords (layoutAt ws s) (layoutAt wd d)) → EntryPut before k free free ws ts wd td s d after free
+put-plain before k free ws ts wd td s d room rc not h =
+    let fits : k + 4 ≤ length before = omega (arith, room .before, room .within) in
+    let route = easy-route (layoutAt ws s) (layoutAt wd d) before k fits in
+    rw h (record {
+      here =
+          record {
+            entry =
+                record {
+                  plain = λ low is. not (rc .is ∙ is);
+                  easy = λ some low. easy-stands (layoutAt ws s) (layoutAt wd d) before k fits (λ z. omega (arith, z));
+                  enum = λ high. absurd (omega (arith, route));
+                  fast = λ high low. absurd (omega (arith, route));
+                  span = λ high low. absurd (omega (arith, route));
+                };
+            bounds = λ high low. absurd (omega (arith, route));
+          };
+      grows = le-refl free;
+      below = λ j low. words-below (easyWords (layoutAt ws s) (layoutAt wd d)) before k j low;
+      between = λ j high low. words-above (easyWords (layoutAt ws s) (layoutAt wd d)) before k j (rw (easy-four (layoutAt ws s) (layoutAt wd d)) high);
+      long = words-length (easyWords (layoutAt ws s) (layoutAt wd d)) before k;
+    })
+
+-- an enum whose rows are looked through
+pub put-looked : (before : List ℕ) (k free : ℕ) (ws ts wd td : List ℕ) (s d : ℕ) {after : List ℕ} → EntryRoom (length before) k free → classWord wd d ≡ 2
+    → after ≡ withWords before k (6 ∷ 0 ∷ 0 ∷ 0 ∷ []) → EntryPut before k free free ws ts wd td s d after free
+unfolding routeIn
+put-looked before k free ws ts wd td s d room is h =
+    let fits : k + 4 ≤ length before = omega (arith, room .before, room .within) in
+    let route : routeIn (getD (withWords before k (6 ∷ 0 ∷ 0 ∷ 0 ∷ [])) k 0) ≡ 6 = rw (put-first before 6 (0 ∷ 0 ∷ 0 ∷ []) k refl fits) in
+    rw h (record {
+      here =
+          record {
+            entry =
+                record {
+                  plain = λ low. absurd (omega (arith, route));
+                  easy = λ some low. absurd (omega (arith, route));
+                  enum = λ high. is;
+                  fast = λ high low. absurd (omega (arith, route));
+                  span = λ high low. absurd (omega (arith, route));
+                };
+            bounds = λ high low. absurd (omega (arith, route));
+          };
+      grows = le-refl free;
+      below = λ j low. words-below (6 ∷ 0 ∷ 0 ∷ 0 ∷ []) before k j low;
+      between = λ j high low. words-above (6 ∷ 0 ∷ 0 ∷ 0 ∷ []) before k j high;
+      long = words-length (6 ∷ 0 ∷ 0 ∷ 0 ∷ []) before k;
+    })
+
+-- significant bits by the words of a span
+module _ (words : List ℕ) (k room low count base : ℕ) (ws ts wd td : List ℕ) (s d : ℕ) (el : getD words (k + 1) 0 ≡ low) (ec : getD words (k + 2) 0 ≡ count) (eb : getD words (k + 3) 0 ≡ base)
+    (of : SpanOf ws s room low count) (each : (q : ℕ) → q < count → getD words (base + q) 0 ≡ translatedCode ws ts wd td s d (low + q)) where
+  span-code : (raw : ℕ) → raw < 2 ^ layoutAt ws s .precision → spanCode words k raw ≡ translatedCode ws ts wd td s d raw
+  unfolding spanCode translatedCode
+  span-code raw fits = rw (el, ec, eb) (go (leb low raw && ltb (raw - low) count) refl)
+    where
+      go : (t : Bool) → (leb low raw && ltb (raw - low) count) ≡ t → cond t (getD words (base + (raw - low)) 0) 0 ≡ translatedCode ws ts wd td s d raw
+      go true e =
+          let b = both (leb low raw) (ltb (raw - low) count) e in
+          let l = leb-true low raw (b .0) in
+          let at : low + (raw - low) ≡ raw = omega (arith, l) in
+          rw at at (each (raw - low) (ltb-true (raw - low) count (b .1)))
+      go false e =
+          let not : low ≤ raw → raw < low + count → ⊥ =
+          λ a b.
+          let t : (leb low raw && ltb (raw - low) count) ≡ true = rw (le-leb low raw a, lt-ltb (raw - low) count (omega arith)) in
+          false≢true (sym e ∙ t)
+          in
+          rw (of .outside raw fits not)
+
+-- there is room for the span of an entry whose words are put
+pub span-asked : (before : List ℕ) (k free : ℕ) (xs ws ts wd td : List ℕ) (s d : ℕ) {mid : List ℕ} {low count : ℕ} → EntryRoom (length before) k free → PairFormed ws ts wd td s d
+    → SpanOf ws s (length before - free) low count → mid ≡ withWords before k xs
+    → SymbolsFormed ws s × RowsWithin wd d × (low + count ≤ 2 ^ layoutAt ws s .precision) × (free + count ≤ length mid)
+span-asked before k free xs ws ts wd td s d {mid} room f of hm =
+    let long : length mid ≡ length before = rw hm (words-length xs before k) in
+    (symbols-formed ws ts wd td s d f, f .destinationRows, of .inside, omega (arith, of .few, room .within))
+
+-- an enum that goes by its span
+pub put-spanned : (before : List ℕ) (k free : ℕ) (ws ts wd td : List ℕ) (s d : ℕ) {mid after : List ℕ} {code n low count : ℕ} → EntryRoom (length before) k free → classWord wd d ≡ 2
+    → SpanWord (layoutAt ws s) (layoutAt wd d) code → SpanOf ws s n low count → mid ≡ withWords before k (code ∷ low ∷ count ∷ free ∷ []) → SpanPut mid free low count ws ts wd td s d after
+    → EntryPut before k free free ws ts wd td s d after (free + count)
+put-spanned before k free ws ts wd td s d {mid} {after} {code} {n} {low} {count} room is packs of hm put =
+    let fits : k + 4 ≤ length before = omega (arith, room .before, room .within) in
+    let word : (q : ℕ) → q < 4 → getD after (k + q) 0 ≡ getD (code ∷ low ∷ count ∷ free ∷ []) q 0 =
+    λ q h. put .below (k + q) (omega (arith, room .before)) ∙ rw hm (put-by before (code ∷ low ∷ count ∷ free ∷ []) k q refl fits h)
+    in
+    let z : k + 0 ≡ k = omega arith in
+    let first : getD after k 0 ≡ code = rw z at (word 0 (omega arith)) in
+    record {
+      here =
+          record {
+            entry =
+                record {
+                  plain = λ less. absurd (omega (arith, packs .least, rw first at less));
+                  easy = λ some less. absurd (omega (arith, packs .least, rw first at less));
+                  enum = λ more. is;
+                  fast = λ more less. enum-moved (layoutAt ws s) (layoutAt wd d) after (code ∷ []) k 0 first (packs .fast (rw first at less));
+                  span =
+                      λ more less.
+                      record {
+                        is = span-code after k n low count free ws ts wd td s d (word 1 (omega arith)) (word 2 (omega arith)) (word 3 (omega arith)) of (put .each);
+                        high = rw (word 3 (omega arith)) (room .high);
+                      };
+                };
+            bounds = λ more less. rw (word 2 (omega arith), word 3 (omega arith)) (le-refl free, le-refl (free + count));
+          };
+      grows = omega arith;
+      below = λ j h. put .below j (omega (arith, room .before)) ∙ rw hm (words-below (code ∷ low ∷ count ∷ free ∷ []) before k j h);
+      between = λ j a b. put .below j b ∙ rw hm (words-above (code ∷ low ∷ count ∷ free ∷ []) before k j a);
+      long = put .long ∙ rw hm (words-length (code ∷ low ∷ count ∷ free ∷ []) before k);
+    }
+
+-- ---- the packed word of two enums
+
+pub word-slow : (l m : Layout) → SpanWord l m 5
+unfolding routeIn
+word-slow l m = record { least = omega arith; most = omega arith; fast = λ h. absurd (omega arith) }
+
+word-fast : (l m : Layout) → Valid l → Valid m → m .offset .0 ≡ 0 → m .precision ≡ 8 * m .size .0
+    → SpanWord l m (packed (3 + orderCode (l .order)) (shiftOf (l .order) (l .size .0) (l .offset .0)) (l .precision) (m .size .0) (orderCode (m .order)) (m .precision))
+word-fast l m v u lowest whole =
+    let route = order-small (l .order) in
+    let r : 3 + orderCode (l .order) < 8 = omega arith in
+    let s = shift-small (l .order) (l .size .0) (l .offset .0) (l .precision) (v .sized) (v .some) (v .inside) in
+    let p : l .precision < 128 = omega (arith, v .most) in
+    let z : m .size .0 < 16 = omega (arith, u .sized) in
+    let o : orderCode (m .order) < 2 = omega (arith, order-small (m .order)) in
+    let back = route-back _ _ _ _ _ (m .precision) r s p z o in
+    record {
+      least = omega (arith, back);
+      most = omega (arith, back);
+      fast =
+          λ h.
+          record {
+            source = v;
+            destination = u;
+            lowest = lowest;
+            whole = whole;
+            order = back;
+            shift = shift-back _ _ _ _ _ (m .precision) r s p z o;
+            precision = precision-back _ _ _ _ _ (m .precision) r s p z o;
+            size = size-back _ _ _ _ _ (m .precision) r s p z o;
+            destinationOrder = order-back _ _ _ _ _ (m .precision) r s p z o;
+            bits = bits-back _ _ _ _ _ (m .precision) r s p z o;
+          };
+    }
+
+pub word-read : (ws wd : List ℕ) (s d : ℕ) {l m : Layout} {code : ℕ} → Valid (layoutAt ws s) × Valid (layoutAt wd d) → l ≡ layoutAt ws s → m ≡ layoutAt wd d → m .offset .0 ≡ 0
+    → m .precision ≡ 8 * m .size .0
+    → code ≡ packed (3 + orderCode (l .order)) (shiftOf (l .order) (l .size .0) (l .offset .0)) (l .precision) (m .size .0) (orderCode (m .order)) (m .precision)
+    → SpanWord (layoutAt ws s) (layoutAt wd d) code
+word-read ws wd s d {l} {m} v el em lowest whole h = rw (h, ← el, ← em) (word-fast l m (rw el (v .0)) (rw em (v .1)) lowest whole)
+
+-- ---- the words of entries
+
+four : (w : List ℕ) (k q : ℕ) → q < 4 → getD (getD w k 0 ∷ getD w (k + 1) 0 ∷ getD w (k + 2) 0 ∷ getD w (k + 3) 0 ∷ []) q 0 ≡ getD w (k + q) 0
+four w k zero h =
+    let z : k + 0 ≡ k = omega arith in
+    rw z
+four w k (suc zero) h = refl
+four w k (suc (suc zero)) h = refl
+four w k (suc (suc (suc zero))) h = refl
+four w k (suc (suc (suc (suc q)))) h = absurd (omega arith)
+
+-- entry i has the words of entry h, which is before it and has the same types
+pub put-copied : (before plan : List ℕ) (h i start free : ℕ) (ws ts wd td : List ℕ) {after : List ℕ} → h < i → getD plan (2 * h + 1) 0 ≡ getD plan (2 * i + 1) 0 → wordsPlace i + 4 ≤ start
+    → start ≤ length before → AllStanding before plan i start free ws ts wd td
+    → after ≡ withWords before (wordsPlace i) (getD before (wordsPlace h) 0 ∷ getD before (wordsPlace h + 1) 0 ∷ getD before (wordsPlace h + 2) 0 ∷ getD before (wordsPlace h + 3) 0 ∷ [])
+    → EntryPut before (wordsPlace i) start free ws ts wd td (sourceType plan i) (destinationType plan i) after free
+unfolding sourceType destinationType
+put-copied before plan h i start free ws ts wd td {after} low types room long all e =
+    let xs : List ℕ = getD before (wordsPlace h) 0 ∷ getD before (wordsPlace h + 1) 0 ∷ getD before (wordsPlace h + 2) 0 ∷ getD before (wordsPlace h + 3) 0 ∷ [] in
+    let above : (j : ℕ) → wordsPlace i + 4 ≤ j → getD after j 0 ≡ getD before j 0 = λ j a. rw e (words-above xs before (wordsPlace i) j a) in
+    record {
+      here =
+          standing-moved after before (wordsPlace i) (wordsPlace h) start free
+          (λ q less. rw e (put-by before xs (wordsPlace i) q refl (omega arith) less ∙ four before (wordsPlace h) q less))
+          (λ j a b. above j (omega arith))
+          ws ts wd td (sourceType plan i) (destinationType plan i) (rw types at (all h low));
+      grows = le-refl free;
+      below = λ j a. rw e (words-below xs before (wordsPlace i) j a);
+      between = λ j a b. above j a;
+      long = rw e (words-length xs before (wordsPlace i));
+    }
+
+-- an entry whose span is the first behind `free`
+pub put-behind : (before : List ℕ) (k start free : ℕ) (ws ts wd td : List ℕ) (s d : ℕ) {after : List ℕ} {next : ℕ} → start ≤ free → EntryPut before k free free ws ts wd td s d after next
+    → EntryPut before k start free ws ts wd td s d after next
+put-behind before k start free ws ts wd td s d {after} {next} low p =
+    record {
+      here = standing-wider after k free next start next ws ts wd td s d low (le-refl next) (p .here);
+      grows = p .grows;
+      below = p .below;
+      between = p .between;
+      long = p .long;
+    }
+
+-- one entry more
+pub entries-more : (before plan : List ℕ) (i start free : ℕ) (ws ts wd td after : List ℕ) (next : ℕ) → wordsPlace i + 4 ≤ start → AllStanding before plan i start free ws ts wd td
+    → EntryPut before (wordsPlace i) start free ws ts wd td (sourceType plan i) (destinationType plan i) after next → AllStanding after plan (i + 1) start next ws ts wd td
+entries-more before plan i start free ws ts wd td after next room all p =
+    below-more (λ (j : ℕ). Standing after (wordsPlace j) start next ws ts wd td (sourceType plan j) (destinationType plan j)) i
+    (λ j low.
+    standing-wider after (wordsPlace j) start free start next ws ts wd td (sourceType plan j) (destinationType plan j) (le-refl start) (p .grows)
+    (standing-moved after before (wordsPlace j) (wordsPlace j) start free (λ q less. p .below (wordsPlace j + q) (omega arith)) (λ q a b. p .between q (omega arith) b) ws ts wd td
+    (sourceType plan j) (destinationType plan j) (all j low)))
+    (p .here)
