@@ -18,7 +18,7 @@ use Rattle.table.specs.Table.{decode, typeAt, sizeWord}
 use Rattle.table.specs.Words.{Reads}
 use Rattle.table.proofs.Made.{node-size}
 use Rattle.sheet.specs.Sheet.{sheetOf}
-use Rattle.runs.specs.Run.{hasRoom, typeChecks}
+use Rattle.runs.specs.Run.{hasRoom, target}
 use Rattle.runs.specs.Run.Checked.{refused, passed}
 use Rattle.two_sheets.specs.declared.Sheets.{Sheets}
 use Rattle.two_sheets.specs.declared.Sheets.the-variants as sheets
@@ -26,7 +26,7 @@ use Rattle.two_sheets.specs.TwoSheets.{first, second, IsSheet, ReadAs, SheetsRe
 use Rattle.two_sheets.proofs.Halves.{rest-is, types-both}
 use Rattle.conversion.specs.declared.Checks.{Checks}
 use Rattle.conversion.specs.declared.Checks.the-variants.{Refuse, Pass}
-use Rattle.conversion.specs.Call.{formOf, sourceOf, backgroundOf, HasRecords, sheetsChecked, typesChecked, Passes, TypesSay, SheetsSay}
+use Rattle.conversion.specs.Call.{formOf, sourceOf, backgroundOf, HasRecords, ConvertsIn, sheetsChecked, typesChecked, Passes, TypesSay, SheetsSay}
 use Rattle.conversion.proofs.Parts.{no-path, many, no-room, all-pass, denied, granted, product-fits, copying-short, copying-small, copying-room, in-place-short, in-place-grown, in-place-small, in-place-room, source-faulty, destination-faulty, both-read}
 
 -- ---- room
@@ -63,6 +63,18 @@ has-records true n S D out other few h =
     let t = and-true (leb (n * max S D) out) (leb (n * D) other) h in
     let most : n * max S D ≤ out = leb-true (n * max S D) out (t .0) in
     (few, le-trans (mul-le-mul-left n (le-max-left S D)) most, le-trans (mul-le-mul-left n (le-max-right S D)) most, leb-true (n * D) other (t .1))
+
+-- which form it is
+pub records-as : {b t : Bool} (n s d out other : ℕ) → b ≡ t → HasRecords b n s d out other → HasRecords t n s d out other
+records-as n s d out other e h = subst (λ (x : Bool). HasRecords x n s d out other) e h
+
+pub converts-as : {b t : Bool} (S D : Datatype) (n : ℕ) (out other after : List ℕ) (r : ℕ) → b ≡ t → ConvertsIn t S D n out other after r → ConvertsIn b S D n out other after r
+converts-as S D n out other after r e h = subst (λ (x : Bool). ConvertsIn x S D n out other after r) (sym e) h
+
+-- the buffer that is written
+pub target-is : (b : Bool) (out other : List ℕ) → target (formOf b) (sourceOf b out other) (backgroundOf b out other) ≡ out
+target-is false out other = refl
+target-is true out other = refl
 
 pub size-type : (w t : List ℕ) (i : ℕ) → size (typeAt w t i) ≡ sizeWord w i
 unfolding decode

@@ -76,21 +76,35 @@ pub fn convert_planned(
     requires { ⌜ Job s d (now plan) n (now ws) (now wd) (now words) × HasRecords «in_place» c s d (length (now out)) (length (now other)) × (handling ≤ 1) ⌝ }
     ensures { λ r. ⌜ ((j : Job s d (now (plan .entry)) n (now (ws .entry)) (now (wd .entry)) (now (words .entry))) → LeavesIn «in_place» handling c (now (out .entry)) (now (other .entry)) (passed (j .source) (j .destination)) r (now (out .exit))) ⌝ }
 {
-    if handling != 0 {
-        if let Stop::At(i, b, kind) = first_stop(
+    if handling == 0 {
+        return Answer::Done(convert_records(
             in_place,
             out,
             other,
             c,
             s,
+            d,
             plan,
             n,
             ws,
             wd,
             words,
-        ) {
-            return Answer::Stop(i, b, kind);
-        }
+        ));
     }
-    Answer::Done(convert_records(in_place, out, other, c, s, d, plan, n, ws, wd, words))
+    match first_stop(in_place, out, other, c, s, plan, n, ws, wd, words) {
+        Stop::At(i, b, kind) => Answer::Stop(i, b, kind),
+        Stop::Nowhere => Answer::Done(convert_records(
+            in_place,
+            out,
+            other,
+            c,
+            s,
+            d,
+            plan,
+            n,
+            ws,
+            wd,
+            words,
+        )),
+    }
 }

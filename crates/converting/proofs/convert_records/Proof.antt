@@ -1,42 +1,42 @@
+-- `converting::convert_records` meets its contract. Assumes nothing.
 use borrow.Author.Needs.{needs}
+use Rattle.conversion.proofs.Checking.{records-as, converts-as}
 use Rattle.converting.proofs.convert_records.Statement.{statement}
 use Rattle.converting.proofs.convert_records.Tie as tie
-use Rattle.converting.proofs.convert_records.Reads as reads
-use Rattle.converting.proofs.convert_records.Lts as lts
-use Rattle.copy_loop.proofs.copy_records.Reads as copy-records-reads
-use Rattle.in_place_loop.proofs.replace_records.Reads as replace-records-reads
 
--- src/lib.rt:34:9
 replace-records-requires : tie.Need-replace-records-requires
-replace-records-requires c κs = ?
+replace-records-requires c κs =
+    let t = c .before in
+    let x = t .before .before .before .before .before .before .before in
+    let h = records-as _ _ _ _ _ (t .if1 .taken) (x .pre .1) in
+    (x .pre .0, h .0, h .1, h .2, h .3)
 
--- src/lib.rt:34:9
-same-length : tie.Need-same-length
-same-length c = search needs
-
--- src/lib.rt:34:9
 returns : tie.Need-returns
-returns c = ?
+returns c =
+    let t = c .before .before .before .before in
+    let a = t .before .before .before .before .before .before .before .args in
+    λ j. converts-as (j .source) (j .destination) (a .c) (a .out .now) (a .other .now) _ _ (t .if1 .taken) (c .before .before .replace-records .ensures j)
 
--- src/lib.rt:36:5
 copy-records-requires : tie.Need-copy-records-requires
-copy-records-requires c κs = ?
+copy-records-requires c κs =
+    let t = c .before in
+    let x = t .before .before .before .before .before .before .before in
+    let h = records-as _ _ _ _ _ (t .if1 .left) (x .pre .1) in
+    (x .pre .0, h .0, h .1, h .2)
 
--- src/lib.rt:17:1
-same-length-2 : tie.Need-same-length-2
-same-length-2 c = search needs
-
--- src/lib.rt:17:1
 returns-2 : tie.Need-returns-2
-returns-2 c = ?
+returns-2 c =
+    let t = c .before .before .before .before in
+    let a = t .before .before .before .before .before .before .before .args in
+    λ j. converts-as (j .source) (j .destination) (a .c) (a .out .now) (a .other .now) _ _ (t .if1 .left) (c .before .before .copy-records .ensures j)
 
 pub convert-records-spec : {M : Type 1} → statement M
 convert-records-spec =
     tie.close
     (tie.spec
     replace-records-requires
-    same-length
+    (λ c. search needs)
     returns
     copy-records-requires
-    same-length-2
+    (λ c. search needs)
     returns-2)
