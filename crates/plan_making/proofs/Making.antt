@@ -58,7 +58,7 @@ module _ (ss ws : List ℕ) (i : ℕ) (ds wd : List ℕ) (k : ℕ) (both : Both 
           }
 
 -- what a plan that was made is to the loops over records
-pub job : {ss ws : List ℕ} {i : ℕ} {ds wd : List ℕ} {k : ℕ} {plan : List ℕ} {n : ℕ} {words : List ℕ} → Both ss ws i ds wd k → Made ss ws i ds wd k plan n words
+unfoldable pub job : {ss ws : List ℕ} {i : ℕ} {ds wd : List ℕ} {k : ℕ} {plan : List ℕ} {n : ℕ} {words : List ℕ} → Both ss ws i ds wd k → Made ss ws i ds wd k plan n words
     → {s d : ℕ} → s ≡ size (typeAt ws ss i) → d ≡ size (typeAt wd ds k) → Job s d plan n ws wd words
 job {ss} {ws} {i} {ds} {wd} {k} {plan} both made source destination =
     record {

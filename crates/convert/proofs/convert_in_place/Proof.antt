@@ -2,7 +2,7 @@
 use borrow.Author.Needs.{needs}
 use mathlib.Core.Path.{sym, _∙_}
 use lib.Seq.{length-take-le}
-use Rattle.convert.proofs.Whole.{bad-handling, short-table, answers-all}
+use Rattle.conversion.proofs.Whole.{bad-handling, short-table, answers-all}
 use Rattle.convert.proofs.convert_in_place.Statement.{statement}
 use Rattle.convert.proofs.convert_in_place.Tie as tie
 
@@ -31,7 +31,7 @@ same-length-2 : tie.Need-same-length-2
 same-length-2 c = search needs
 
 returns-3 : tie.Need-returns-3
-returns-3 c = rw (c .before .before .clear .ensures) (answers-all _ _ _ (c .before .before .before .before .before .before .before .before .convert-within .last .1 .1 .1 .1 .1 .1 .0) (c .before .before .before .before .before .before .before .before .before .before .before .before .if1 .left) (c .before .before .before .before .before .before .before .before .before .before .before .if2 .left) (c .before .before .before .before .before .table .given .0 ∙ length-take-le 8192 (c .before .before .before .before .before .before .before .before .before .before .before .before .before .before .before .before .before .before .args .table .now) (c .before .before .before .before .before .before .before .before .before .before .before .if2 .left)) (c .before .before .before .before .before .before .before .before .convert-within .ensures))
+returns-3 c = rw (c .before .before .clear .ensures) (answers-all _ _ _ (c .before .before .before .before .before .before .before .before .convert-within .last .1 .1 .1 .1 .1 .1 .1 .0) (c .before .before .before .before .before .before .before .before .before .before .before .before .if1 .left) (c .before .before .before .before .before .before .before .before .before .before .before .if2 .left) (c .before .before .before .before .before .table .given .0 ∙ length-take-le 8192 (c .before .before .before .before .before .before .before .before .before .before .before .before .before .before .before .before .before .before .args .table .now) (c .before .before .before .before .before .before .before .before .before .before .before .if2 .left)) (c .before .before .before .before .before .before .before .before .convert-within .ensures))
 
 pub convert-in-place-spec : {M : Type 1} → statement M
 convert-in-place-spec =
