@@ -11,8 +11,8 @@ use Rattle.plans.specs.PlanWords.{entriesAt, sourceType, destinationType, words
 
 -- arrays of so many words have room for the plan to type k and for its words
 pub record Room (ds wd : List ℕ) (k plan words : ℕ) : Type 0 where
-  pub entries : 2 * size (typeAt wd ds k) ≤ plan
-  pub words : wordsPlace (size (typeAt wd ds k)) ≤ words
+  pub for-entries : 2 * size (typeAt wd ds k) ≤ plan
+  pub for-words : wordsPlace (size (typeAt wd ds k)) ≤ words
   pub most : words ≤ 65536
 
 -- the plan, of n entries, and its words

@@ -1,4 +1,5 @@
 // The plan of a call on two sheets: its entries, their words, and the ids of names where they are wanted.
+ghost use lib.ListN.{length};
 ghost use Rattle.two_sheets.specs.TwoSheets.{Both};
 ghost use Rattle.plan_making.specs.Made.{Room, Made};
 

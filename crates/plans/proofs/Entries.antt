@@ -40,7 +40,7 @@ module _ (plan ws ts wd td : List ℕ) where
   pub entries-last : (n : ℕ) → entriesAt plan (suc n) ws ts wd td ≡ entriesAt plan n ws ts wd td ++ (entryAt plan ws ts wd td n ∷ [])
   entries-last n = let e : 0 + n ≡ n = omega arith in rw e at (entries-more 0 n)
 
-  sound-at : (s d k i j : ℕ) → AllSound s d (entriesFrom plan ws ts wd td i k) → i ≤ j → j < i + k → Sound s d (entryAt plan ws ts wd td j)
+  pub sound-at : (s d k i j : ℕ) → AllSound s d (entriesFrom plan ws ts wd td i k) → i ≤ j → j < i + k → Sound s d (entryAt plan ws ts wd td j)
   unfolding entriesFrom
   sound-at s d zero i j h low high = absurd (omega arith)
   sound-at s d (suc k) i j h low high =

@@ -1,0 +1,35 @@
+-- `plan_making::make_plan` meets its contract. Assumes nothing.
+use borrow.Author.Needs.{needs}
+use Rattle.plan_making.proofs.Making.{entries-asked, names-asked, plan-made}
+use Rattle.plan_making.proofs.make_plan.Statement.{statement}
+use Rattle.plan_making.proofs.make_plan.Tie as tie
+
+plan-requires : tie.Need-plan-requires
+plan-requires c κs =
+    let x = c .before .before .before .before .before .before .before in
+    (x .pre .0 .source, x .pre .0 .destination, x .pre .1 .for-entries)
+
+put-entries-requires : tie.Need-put-entries-requires
+put-entries-requires c κs =
+    let p = c .before .before .before .before in
+    let x = p .before .before .before .before .before .before .before .before in
+    entries-asked (x .args .ss .now) (x .args .ws .now) (x .args .i) (x .args .ds .now) (x .args .wd .now) (x .args .k) (x .pre .0) (x .args .plan .now) _ _ (p .plan .ensures) (x .args .words .now) (x .pre .1)
+
+put-names-requires : tie.Need-put-names-requires
+put-names-requires c κs =
+    let e = c .before .before .before in
+    let p = e .before .before .before .before .before in
+    let x = p .before .before .before .before .before .before .before .before in
+    names-asked (x .args .ss .now) (x .args .ws .now) (x .args .i) (x .args .ds .now) (x .args .wd .now) (x .args .k) (x .pre .0) (x .args .plan .now) _ _ (p .plan .ensures) (x .args .words .now) (x .pre .1) _ (e .put-entries .ensures)
+
+returns : tie.Need-returns
+returns c =
+    let m = c .before .before in
+    let e = m .before .before .before .before in
+    let p = e .before .before .before .before .before in
+    let x = p .before .before .before .before .before .before .before .before in
+    plan-made (x .args .ss .now) (x .args .ws .now) (x .args .i) (x .args .ds .now) (x .args .wd .now) (x .args .k) (x .pre .0) (x .args .plan .now) _ _ (p .plan .ensures) (x .args .words .now) (x .pre .1) _ (e .put-entries .ensures) _ (m .put-names .ensures)
+
+pub make-plan-spec : {M : Type 1} → statement M
+make-plan-spec =
+    tie.close (tie.spec plan-requires put-entries-requires put-names-requires (λ c. search needs) (λ c. search needs) returns)
