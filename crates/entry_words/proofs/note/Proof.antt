@@ -8,7 +8,7 @@ use Rattle.entry_words.proofs.note.Tie as tie
 cast-h : tie.Need-cast-h
 cast-h c =
     let types = c .before .before .args .types in
-    omega (arith, c .slice-known .given ((types + 2 * (types / 64)) % 64))
+    omega (arith, c .slice-known .given ((types + 8 * (types / 64)) % 64))
 
 pub note-spec : {M : Type 1} → statement M
 note-spec =

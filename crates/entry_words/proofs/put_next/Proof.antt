@@ -20,8 +20,8 @@ returns c =
     let same = s .same-types .ensures (i .if1 .taken) in
     (λ start a b all. put-copied _ _ _ _ start _ _ _ _ _ (same .0) (same .1) a (omega (arith, x .pre .3 .within)) all (p .copy-entry .ensures), x .pre .3 .within)
 
-put-entry-requires : tie.Need-put-entry-requires
-put-entry-requires c κs =
+put-pair-requires : tie.Need-put-pair-requires
+put-pair-requires c κs =
     let e = c .before in
     let x = e .before .before .before .before .before .before .before .before .before in
     rw (e .entry .ensures .0) (x .pre .2, x .pre .3)
@@ -30,7 +30,7 @@ returns-2 : tie.Need-returns-2
 returns-2 c =
     let p = c .before .before in
     let e = p .before .before in
-    (λ start a b all. put-behind _ _ start _ _ _ _ _ _ _ b (rw (e .entry .ensures .0) at (p .put-entry .ensures .0)), p .put-entry .ensures .1)
+    (λ start a b all. put-behind _ _ start _ _ _ _ _ _ _ b (rw (e .entry .ensures .0) at (p .put-pair .ensures .0)), p .put-pair .ensures .1)
 
 pub put-next-spec : {M : Type 1} → statement M
 put-next-spec =
@@ -43,6 +43,6 @@ put-next-spec =
     (λ c κs. search needs)
     (λ c. search needs)
     (λ c. search needs)
-    put-entry-requires
+    put-pair-requires
     (λ c. search needs)
     returns-2)

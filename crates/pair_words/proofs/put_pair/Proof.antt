@@ -1,8 +1,8 @@
--- `entry_words::put_entry` meets its contract: by the class of the destination. Assumes nothing.
+-- `pair_words::put_pair` meets its contract: by the class of the destination. Assumes nothing.
 use borrow.Author.Needs.{needs}
 use Rattle.plans.proofs.Spans.{put-plain}
-use Rattle.entry_words.proofs.put_entry.Statement.{statement}
-use Rattle.entry_words.proofs.put_entry.Tie as tie
+use Rattle.pair_words.proofs.put_pair.Statement.{statement}
+use Rattle.pair_words.proofs.put_pair.Tie as tie
 
 returns-2 : tie.Need-returns-2
 returns-2 c =
@@ -12,8 +12,8 @@ returns-2 c =
     let x = t .before .before .before .before .before .before in
     (put-plain _ _ _ _ _ _ _ _ _ (x .pre .1) (t .type-word .ensures) (i .if1 .left) (p .put-plain .ensures), x .pre .1 .within)
 
-pub put-entry-spec : {M : Type 1} → statement M
-put-entry-spec =
+pub put-pair-spec : {M : Type 1} → statement M
+put-pair-spec =
     tie.close
     (tie.spec
     (λ c κs. search needs)

@@ -1,10 +1,10 @@
--- `entry_words::span_word` meets its contract: by the tests for bits beside the number. Assumes nothing.
+-- `pair_words::span_word` meets its contract: by the tests for bits beside the number. Assumes nothing.
 use mathlib.Core.Path.{_∙_}
 use native.Mathlib.Omega.{arith}
 use borrow.Author.Needs.{needs}
 use Rattle.plans.proofs.Spans.{word-slow, word-read}
-use Rattle.entry_words.proofs.span_word.Statement.{statement}
-use Rattle.entry_words.proofs.span_word.Tie as tie
+use Rattle.pair_words.proofs.span_word.Statement.{statement}
+use Rattle.pair_words.proofs.span_word.Tie as tie
 
 bits-of-requires : tie.Need-bits-of-requires
 bits-of-requires c κs =

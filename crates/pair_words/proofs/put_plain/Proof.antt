@@ -1,8 +1,8 @@
--- `entry_words::put_plain` meets its contract. Assumes nothing.
+-- `pair_words::put_plain` meets its contract. Assumes nothing.
 use mathlib.Core.Path.{_∙_}
 use borrow.Author.Needs.{needs}
-use Rattle.entry_words.proofs.put_plain.Statement.{statement}
-use Rattle.entry_words.proofs.put_plain.Tie as tie
+use Rattle.pair_words.proofs.put_plain.Statement.{statement}
+use Rattle.pair_words.proofs.put_plain.Tie as tie
 
 returns : tie.Need-returns
 returns c =

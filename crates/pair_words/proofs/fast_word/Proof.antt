@@ -1,10 +1,10 @@
--- `entry_words::fast_word` meets its contract. Assumes nothing.
+-- `pair_words::fast_word` meets its contract. Assumes nothing.
 use mathlib.Core.Path.{_∙_}
 use native.Mathlib.Omega.{arith}
 use borrow.Author.Needs.{needs}
 use Rattle.easy.proofs.Easy.{order-small, shift-small}
-use Rattle.entry_words.proofs.fast_word.Statement.{statement}
-use Rattle.entry_words.proofs.fast_word.Tie as tie
+use Rattle.pair_words.proofs.fast_word.Statement.{statement}
+use Rattle.pair_words.proofs.fast_word.Tie as tie
 
 add-pack : tie.Need-add-pack
 add-pack c = omega (arith, c .order-code .ensures, order-small (c .before .before .before .args .l .order))

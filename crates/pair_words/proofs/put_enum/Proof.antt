@@ -1,9 +1,9 @@
--- `entry_words::put_enum` meets its contract: by whether there is a span, and room for it. Assumes nothing.
+-- `pair_words::put_enum` meets its contract: by whether there is a span, and room for it. Assumes nothing.
 use native.Mathlib.Omega.{arith}
 use borrow.Author.Needs.{needs}
 use Rattle.plans.proofs.Spans.{symbols-formed, pair-valid, span-asked, put-looked, put-spanned}
-use Rattle.entry_words.proofs.put_enum.Statement.{statement}
-use Rattle.entry_words.proofs.put_enum.Tie as tie
+use Rattle.pair_words.proofs.put_enum.Statement.{statement}
+use Rattle.pair_words.proofs.put_enum.Tie as tie
 
 span-of-requires : tie.Need-span-of-requires
 span-of-requires c κs = symbols-formed _ _ _ _ _ _ (c .before .before .before .before .before .pre .0)
