@@ -2,7 +2,6 @@
 
 pub mod sign;
 
-
 // A number from -2^63 to 2^64 - 1: an i64 where it was read from a signed place.
 pub enum Number {
     Signed(i64),
@@ -15,8 +14,17 @@ pub struct Parts {
     pub distance: u64,
 }
 
-// A number brought into a range: its significant bits, and the kind of the exception, 0 for none.
+// A number brought into a range: its significant bits, and the kind of exception.
 pub struct Fitted {
     pub raw: u64,
     pub kind: u32,
 }
+
+// The kinds of exception: above the destination's range, below it, and without a symbol in one of the two enums.
+pub const NO_EXCEPTION: u32 = 0;
+
+pub const ABOVE: u32 = 1;
+
+pub const BELOW: u32 = 2;
+
+pub const NO_SYMBOL: u32 = 3;

@@ -6,10 +6,10 @@ ghost use Rattle.layout.specs.Layout.{Valid};
 ghost use Rattle.number.specs.Place.{stored};
 ghost use Rattle.number.specs.Number.{numberAt, fitted};
 ghost use Rattle.number.specs.Parts.{meaning};
-use number::Number;
-use number::sign;
 use bits::ByteAt;
 use layout::Layout;
+use number::Number;
+use number::sign;
 
 // The number in l's place at byte at of s.
 pub fn read(s: &[u8], at: ByteAt, l: Layout) -> Number
