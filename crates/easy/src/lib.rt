@@ -15,6 +15,8 @@ ghost use Rattle.easy.specs.Words.{EasyBy, EasyAt};
 
 pub mod each;
 
+use bits::BitAt;
+use bits::ByteAt;
 use bits::Order;
 use bits::bits_of;
 use loading::bits_be;
@@ -39,9 +41,9 @@ pub fn raw_by(src: &[u8], a: usize, order: usize, shift: u32, precision: u32) ->
     ensures { λ r. ⌜ (r ≡ field shift precision (container (orderOf (order - 1)) (take 8 (drop a (now (src .entry)))))) × (r < 2 ^ precision) ⌝ }
 {
     if order == 1 {
-        return bits_le(src, a, shift, precision);
+        return bits_le(src, ByteAt(a), BitAt(shift), precision);
     }
-    bits_be(src, a, shift, precision)
+    bits_be(src, ByteAt(a), BitAt(shift), precision)
 }
 
 // Converts the leaf at byte a of src into the leaf at byte b of dst, by the numbers of an easy pair.
@@ -62,7 +64,7 @@ pub fn convert_by(
 {
     let raw = raw_by(src, a, order, shift, precision);
     let wide = raw + carry * (raw >> (precision - 1));
-    storing::store(dst, b, size, order_of(into), wide);
+    storing::store(dst, ByteAt(b), ByteAt(size), order_of(into), wide);
 }
 
 // The same by the words from word k of w on.

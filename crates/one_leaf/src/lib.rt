@@ -208,7 +208,7 @@ pub fn convert_enum(
     let bits = raw_by(src, a, at(to, k) - 2, at(to, k + 1) as u32, precision) as usize;
     let row = word(to, 16384 + (s * 256 + bits));
     let f = row_bits(row, d, wd, to, into);
-    storing::store(dst, b, size, order, f.raw);
+    storing::store(dst, ByteAt(b), ByteAt(size), order, f.raw);
     f.kind
 }
 
