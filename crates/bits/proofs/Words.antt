@@ -61,12 +61,16 @@ two-parts o s at m n h = ap (container o) (take-add m n (drop at s) ∙ ap (λ (
   where
     a : List ℕ
     a = take m (drop at s)
+
     b : List ℕ
     b = take n (drop (at + m) s)
+
     ea : length a ≡ m
     ea = length-take-le m (drop at s) (simp length-drop (omega arith))
+
     eb : length b ≡ n
     eb = length-take-le n (drop (at + m) s) (simp length-drop (omega arith))
+
     parts : (o : Order) → container o (a ++ b) ≡ joined o m n (container o a) (container o b)
     parts LE = digits-append a b ∙ add-comm _ _ ∙ ap (λ (k : ℕ). fromDigits a + fromDigits b * 2 ^ (8 * k)) ea
     parts BE =

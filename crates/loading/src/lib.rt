@@ -10,7 +10,7 @@ use bits::bits_of;
 use bits::index_of;
 use bits::shift::low_bits;
 
-// The bytes that one read takes, where there are so many.
+// What a window reads at once, whatever the size of the place.
 pub const WINDOW: ByteAt = ByteAt(8);
 
 // The number that size bytes of s from index at hold, for any size.
@@ -34,9 +34,9 @@ fn wide(x: u8) -> u64
     x as u64
 }
 
-// The byte of s at index i, at the place whose value is place. 255 of the largest place fill a u64.
+// The byte of s at index i, at the place whose value is place.
 fn digit(s: &[u8], i: usize, place: u64) -> u64
-    requires { ⌜ (i < length (now s)) × (place ≤ 72340172838076673) ⌝ }
+    requires { ⌜ (i < length (now s)) × (255 * place < 2 ^ 64) ⌝ }
     ensures { λ r. ⌜ (r ≡ getD (now (s .entry)) i 0 * place) × (r ≤ 255 * place) ⌝ }
 {
     wide(s[i]) * place
@@ -45,14 +45,14 @@ fn digit(s: &[u8], i: usize, place: u64) -> u64
 // Straight-line reads: the sum of two or four bytes of s from index at on, each at its place. The compiler turns at most four
 // digits in a sum into one load, where the places are constants.
 fn two(s: &[u8], at: usize, a: u64, b: u64) -> u64
-    requires { ⌜ (at + 2 ≤ length (now s)) × (a + b ≤ 72340172838076673) ⌝ }
+    requires { ⌜ (at + 2 ≤ length (now s)) × (255 * (a + b) < 2 ^ 64) ⌝ }
     ensures { λ r. ⌜ (r ≡ getD (now (s .entry)) at 0 * a + getD (now (s .entry)) (at + 1) 0 * b) × (r ≤ 255 * (a + b)) ⌝ }
 {
     digit(s, at, a) + digit(s, at + 1, b)
 }
 
 fn four(s: &[u8], at: usize, a: u64, b: u64, c: u64, d: u64) -> u64
-    requires { ⌜ (at + 4 ≤ length (now s)) × (a + b + c + d ≤ 72340172838076673) ⌝ }
+    requires { ⌜ (at + 4 ≤ length (now s)) × (255 * (a + b + c + d) < 2 ^ 64) ⌝ }
     ensures { λ r. ⌜ (r ≡ getD (now (s .entry)) at 0 * a + getD (now (s .entry)) (at + 1) 0 * b + getD (now (s .entry)) (at + 2) 0 * c + getD (now (s .entry)) (at + 3) 0 * d) × (r ≤ 255 * (a + b + c + d)) ⌝ }
 {
     digit(s, at, a) + digit(s, at + 1, b) + digit(s, at + 2, c) + digit(s, at + 3, d)
@@ -91,7 +91,14 @@ fn be4_high(s: &[u8], at: usize) -> u64
     requires { ⌜ at + 4 ≤ length (now s) ⌝ }
     ensures { λ r. ⌜ (r ≡ container Order.BE (take 4 (drop at (now (s .entry)))) * 4294967296) × (r ≤ 18446744069414584320) ⌝ }
 {
-    four(s, at, 72057594037927936, 281474976710656, 1099511627776, 4294967296)
+    four(
+        s,
+        at,
+        72057594037927936,
+        281474976710656,
+        1099511627776,
+        4294967296,
+    )
 }
 
 fn le8(s: &[u8], at: usize) -> u64
@@ -167,9 +174,15 @@ pub fn bits_be(s: &[u8], at: ByteAt, offset: BitAt, precision: u32) -> u64
     field_of(be8(s, at.0), offset, precision)
 }
 
-// The significant bits of a place, by one read of eight bytes. In the higher addresses' order the bytes behind the place lie
-// below its bit 0.
-pub fn window(s: &[u8], at: ByteAt, size: ByteAt, order: Order, offset: BitAt, precision: u32) -> u64
+// The significant bits of a place, by one read of eight bytes. In BE the bytes behind the place lie below its bit 0.
+pub fn window(
+    s: &[u8],
+    at: ByteAt,
+    size: ByteAt,
+    order: Order,
+    offset: BitAt,
+    precision: u32,
+) -> u64
     requires { ⌜ (at .0 + 8 ≤ length (now s)) × (size .0 ≤ 8) × (1 ≤ precision) × (offset .0 + precision ≤ 8 * size .0) ⌝ }
     ensures { λ r. ⌜ (r ≡ field (offset .0) precision (container order (take (size .0) (drop (at .0) (now (s .entry)))))) × (r < 2 ^ precision) ⌝ }
 {

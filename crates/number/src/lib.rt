@@ -1,4 +1,4 @@
-// Reads, fits and stores one number in a place of some bytes.
+// One number: its forms, what bringing it into a range gives, and the kinds of exception.
 
 pub mod sign;
 
