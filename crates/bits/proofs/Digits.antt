@@ -1,7 +1,7 @@
 -- Laws of a number's base-256 digits and of their two orders. Assumes nothing.
 use mathlib.Core.Path.{_≡_, refl, sym, ap, ap₂, _∙_}
 use mathlib.Core.Logic.{⊎-elim}
-use mathlib.Core.List.{List, [], _∷_, _++_, reverse, reverseAux, reverse-reverse}
+use mathlib.Core.List.{List, [], _∷_, _++_, reverseAux, reverse-reverse}
 use Prim.Native.Nat.{ℕ, zero, suc, _+_, _-_, _*_, _/_, _%_, _^_, _≤_, _<_}
 use native.Mathlib.Nat.{eq-or-lt-of-le, le-of-suc-le-suc, not-suc-le-zero, le-of-eq, lt-of-lt-of-le, mul-assoc, div-one, mod-one}
 use native.Mathlib.Numerals.{add-one}

@@ -1,7 +1,7 @@
 -- A number against the ends of a range, by the tests of `fittedTo`. Assumes nothing.
 use mathlib.Core.Path.{_≡_, refl, sym, ap, _∙_}
 use mathlib.Core.Bool.{Bool, true, false}
-use Prim.Native.Nat.{ℕ, suc, _-_, _^_, _≤_, _<_, zero-le}
+use Prim.Native.Nat.{ℕ, _-_, _^_, _≤_, _<_, zero-le}
 use native.Mathlib.Nat.{le-refl, le-trans, lt-of-lt-of-le}
 use native.Mathlib.Omega.{arith}
 use lib.Pow.{ones-lt, pow-mono}
@@ -11,7 +11,6 @@ use borrow.Author.Tests.{ltb-false, lt-ltb, le-ltb}
 use mir.Syntax.{w64}
 use mir.Val.{SFits, toZ, ofZ}
 use mir.Facts.{toZ-ofZ}
-use Rattle.number.specs.declared.Fitted.{Fitted}
 use Rattle.number.specs.Number.{largest, smallest, bitsOf, fittedTo}
 use Rattle.number.proofs.Range.{most-le, sub-one-sub}
 use Rattle.fitting.specs.Signed.{InSigned}

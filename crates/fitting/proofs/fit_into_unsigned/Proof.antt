@@ -1,5 +1,5 @@
 -- `fitting::fit_into_unsigned` meets its contract. Each arm's number follows from its test (`Signs`). Assumes nothing.
-use mathlib.Core.Path.{_≡_, sym, ap, _∙_}
+use mathlib.Core.Path.{sym, ap, _∙_}
 use mathlib.Core.Bool.{false}
 use Rattle.number.specs.Number.{fittedTo}
 use Rattle.number.proofs.Signs.{cast-below, cast-above}

@@ -1,5 +1,5 @@
 -- `fitting::largest_of` meets its contract. Assumes nothing.
-use mathlib.Core.Path.{_≡_, ap}
+use mathlib.Core.Path.{ap}
 use lib.IntN.{pos}
 use borrow.Author.Needs.{needs}
 use Rattle.fitting.proofs.largest_of.Statement.{statement}

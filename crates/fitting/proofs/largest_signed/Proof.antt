@@ -1,5 +1,5 @@
 -- `fitting::largest_signed` meets its contract. Assumes nothing.
-use mathlib.Core.Path.{_≡_, ap, _∙_}
+use mathlib.Core.Path.{ap, _∙_}
 use lib.IntN.{pos}
 use borrow.Author.Needs.{needs}
 use Rattle.fitting.proofs.Ends.{largest-fits, held-is}

@@ -1,6 +1,5 @@
 -- `fitting::signed_bits` meets its contract. Assumes nothing.
-use mathlib.Core.Path.{_≡_, sym, ap, _∙_}
-use Prim.Native.Nat.{ℕ, _-_}
+use mathlib.Core.Path.{sym, ap}
 use Rattle.number.specs.Number.{bitsOf}
 use Rattle.number.proofs.Signs.{cast-below, cast-above}
 use borrow.Author.Needs.{needs}

@@ -1,5 +1,5 @@
 -- `fitting::smallest_signed` meets its contract. Assumes nothing.
-use mathlib.Core.Path.{_≡_, ap, _∙_}
+use mathlib.Core.Path.{ap, _∙_}
 use lib.IntN.{negsuc}
 use borrow.Author.Needs.{needs}
 use Rattle.fitting.proofs.Ends.{smallest-fits, held-is}

@@ -1,5 +1,4 @@
 -- `loading::bits_le` meets its contract. Assumes nothing.
-use mathlib.Core.Path.{_≡_}
 use borrow.Author.Needs.{needs}
 use Rattle.loading.proofs.bits_le.Statement.{statement}
 use Rattle.loading.proofs.bits_le.Tie as tie

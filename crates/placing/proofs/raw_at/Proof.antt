@@ -1,5 +1,4 @@
 -- `placing::raw_at` meets its contract. Assumes nothing.
-use mathlib.Core.Path.{_≡_}
 use borrow.Author.Needs.{needs}
 use Rattle.placing.proofs.raw_at.Statement.{statement}
 use Rattle.placing.proofs.raw_at.Tie as tie

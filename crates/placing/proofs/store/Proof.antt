@@ -1,5 +1,5 @@
 -- `placing::store` meets its contract: a layout without pads takes the number as it is; else the calls' contracts compose. Assumes nothing.
-use mathlib.Core.Path.{_≡_, _∙_}
+use mathlib.Core.Path.{_∙_}
 use native.Mathlib.Omega.{arith}
 use denote.Ref.{now}
 use Rattle.bits.proofs.Eight.{bytes-of}

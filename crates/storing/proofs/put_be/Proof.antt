@@ -1,28 +1,19 @@
 -- `storing::put_be` meets its contract. Assumes nothing.
-use mathlib.Core.Path.{_≡_}
 use borrow.Author.Needs.{needs}
 use Rattle.storing.proofs.put_be.Statement.{statement}
 use Rattle.storing.proofs.put_be.Tie as tie
 
 returns : tie.Need-returns
-returns c =
-    let e : c .before .before .before .before .before .before .args .size ≡ 1 = search needs in
-    rw e (c .before .before .put1 .ensures)
+returns c = rw (c .before .before .before .before .match .keys1) (c .before .before .put1 .ensures)
 
 returns-2 : tie.Need-returns-2
-returns-2 c =
-    let e : c .before .before .before .before .before .before .args .size ≡ 2 = search needs in
-    rw e (c .before .before .put2 .ensures)
+returns-2 c = rw (c .before .before .before .before .match .keys2) (c .before .before .put2 .ensures)
 
 returns-3 : tie.Need-returns-3
-returns-3 c =
-    let e : c .before .before .before .before .before .before .args .size ≡ 4 = search needs in
-    rw e (c .before .before .put4 .ensures)
+returns-3 c = rw (c .before .before .before .before .match .keys3) (c .before .before .put4 .ensures)
 
 returns-4 : tie.Need-returns-4
-returns-4 c =
-    let e : c .before .before .before .before .before .before .args .size ≡ 8 = search needs in
-    rw e (c .before .before .put8 .ensures)
+returns-4 c = rw (c .before .before .before .before .match .keys4) (c .before .before .put8 .ensures)
 
 pub put-be-spec : {M : Type 1} → statement M
 put-be-spec =
@@ -42,4 +33,4 @@ put-be-spec =
     (λ c. search needs)
     returns-4
     (λ c. search needs)
-    (λ c. search needs))
+    (λ c. c .before .before .put-any .ensures))

@@ -1,6 +1,6 @@
 -- `bits::shift::low_bits` meets its contract. At the whole width all bits are kept. Assumes nothing.
-use Prim.Native.Nat.{ℕ, _%_, _<_, _^_}
-use mathlib.Core.Path.{_≡_, sym, ap}
+use Prim.Native.Nat.{ℕ, _%_}
+use mathlib.Core.Path.{sym, ap}
 use native.Mathlib.Nat.{mod-eq-of-lt, mod-lt}
 use borrow.Author.Needs.{needs}
 use lib.Pow.{pow-pos}
