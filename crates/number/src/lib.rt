@@ -20,11 +20,13 @@ pub struct Fitted {
     pub kind: u32,
 }
 
-// The kinds of exception: above the destination's range, below it, and without a symbol in one of the two enums.
+// The kinds of exception.
 pub const NO_EXCEPTION: u32 = 0;
 
+// The number lies above the destination's range, or below it.
 pub const ABOVE: u32 = 1;
 
 pub const BELOW: u32 = 2;
 
+// The source has no symbol for the number, or the destination no number for the symbol.
 pub const NO_SYMBOL: u32 = 3;
