@@ -1,9 +1,9 @@
 -- Laws of a number's base-256 digits and of their two orders. Assumes nothing.
 use mathlib.Core.Path.{_≡_, refl, sym, ap, ap₂, _∙_}
 use mathlib.Core.Logic.{⊎-elim}
-use mathlib.Core.List.{List, [], _∷_, reverse, reverseAux, reverse-reverse}
+use mathlib.Core.List.{List, [], _∷_, _++_, reverseAux, reverse-reverse}
 use Prim.Native.Nat.{ℕ, zero, suc, _+_, _-_, _*_, _/_, _%_, _^_, _≤_, _<_}
-use native.Mathlib.Nat.{eq-or-lt-of-le, le-of-suc-le-suc, not-suc-le-zero, le-of-eq, lt-of-lt-of-le, div-one, mod-one}
+use native.Mathlib.Nat.{eq-or-lt-of-le, le-of-suc-le-suc, not-suc-le-zero, le-of-eq, lt-of-lt-of-le, mul-assoc, div-one, mod-one}
 use native.Mathlib.Numerals.{add-one}
 use native.Mathlib.Omega.{arith}
 use lib.ListN.{length, getD, set, take, drop, length-reverse, length-drop, drop-of-length-le}
@@ -29,6 +29,14 @@ getD-within (x ∷ xs) r i h =
     (λ lt. let q : suc (length xs) - suc i ≡ suc (length xs - suc i) = omega arith in
     getD-within xs (x ∷ r) i lt ∙ rw q)
     (eq-or-lt-of-le (le-of-suc-le-suc h))
+
+-- the digits of a, and those of b above them
+pub digits-append : (a b : List ℕ) → fromDigits (a ++ b) ≡ fromDigits b * 2 ^ (8 * length a) + fromDigits a
+digits-append [] b = omega arith
+digits-append (x ∷ xs) b =
+    let e : 8 * suc (length xs) ≡ 8 * length xs + 8 = omega arith in
+    let p : 2 ^ (8 * suc (length xs)) ≡ 2 ^ (8 * length xs) * 256 = rw (e, pow-add 2 (8 * length xs) 8) in
+    rw (digits-append xs b, p) (omega (arith, mul-assoc (fromDigits b) (2 ^ (8 * length xs)) 256))
 
 pub arranged-length : (o : Order) (l : List ℕ) → length (arranged o l) ≡ length l
 arranged-length LE l = refl
@@ -72,20 +80,20 @@ index-lt BE n k h = omega arith
 pub byte-at : (o : Order) (n c i : ℕ) → i < n → getD (contained o n c) i 0 ≡ c / 2 ^ (8 * indexOf o n i) % 256
 byte-at o n c i h = arranged-at o (toDigits n c) n i (digits-length n c) h ∙ digit-at n c (indexOf o n i) (index-lt o n i h)
 
--- a turn of the loop that writes: the byte b of significance k goes to its place
-pub put-step : (d₀ d : List ℕ) (at n : ℕ) (o : Order) (c i k b : ℕ) → at + n ≤ length d₀ → i < n → d ≡ paste d₀ at (contained o n c) i
-    → k ≡ indexOf o n i → b ≡ c / 2 ^ (8 * k) % 256 → set d (at + i) b ≡ paste d₀ at (contained o n c) (i + 1)
-put-step d₀ d at n o c i k b fits h ed ek eb =
-    ap₂ (λ (l : List ℕ) (x : ℕ). set l (at + i) x) ed (eb ∙ ap (λ (x : ℕ). c / 2 ^ (8 * x) % 256) ek ∙ sym (byte-at o n c i h))
+-- a turn of the loop that writes: one byte more
+pub put-step : (d₀ d d₁ : List ℕ) (at n : ℕ) (o : Order) (c i : ℕ) → at + n ≤ length d₀ → i < n → d ≡ paste d₀ at (contained o n c) i
+    → d₁ ≡ set d (at + i) (getD (contained o n c) i 0) → d₁ ≡ paste d₀ at (contained o n c) (i + 1)
+put-step d₀ d d₁ at n o c i fits h e f =
+    f ∙ ap (λ (l : List ℕ). set l (at + i) (getD (contained o n c) i 0)) e
     ∙ paste-suc d₀ at (contained o n c) i 0 (omega arith) (rw (contained-length o n c) h)
     ∙ ap (λ (m : ℕ). paste d₀ at (contained o n c) m) (sym (add-one i))
 
 -- ---- reading, from the highest digit down: c holds the digits from k on
 module _ (s : List ℕ) (at n : ℕ) (o : Order) (fits : at + n ≤ length s) where
-  part-length : length (arranged o (take n (drop at s))) ≡ n
+  pub part-length : length (arranged o (take n (drop at s))) ≡ n
   part-length = arranged-length o (take n (drop at s)) ∙ length-take-le n (drop at s) (simp length-drop (omega arith))
 
-  part-at : (k : ℕ) → k < n → getD (arranged o (take n (drop at s))) k 0 ≡ getD s (at + indexOf o n k) 0
+  pub part-at : (k : ℕ) → k < n → getD (arranged o (take n (drop at s))) k 0 ≡ getD s (at + indexOf o n k) 0
   part-at k h =
       arranged-at o (take n (drop at s)) n k (length-take-le n (drop at s) (simp length-drop (omega arith))) h
       ∙ getD-take n (drop at s) (indexOf o n k) 0 (index-lt o n k h) ∙ getD-drop at s (indexOf o n k) 0

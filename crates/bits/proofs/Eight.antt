@@ -1,16 +1,17 @@
 -- A part of eight bytes, read with all eight. Assumes nothing.
-use mathlib.Core.Path.{_≡_, refl, sym, ap, ap₂, _∙_}
-use mathlib.Core.List.{List, [], _∷_, _++_, reverse, reverseAux, reverse-append}
+use mathlib.Core.Path.{_≡_, sym, ap, _∙_}
+use mathlib.Core.List.{List, [], _∷_, reverse, reverseAux, reverse-append}
 use Prim.Native.Nat.{ℕ, zero, suc, _+_, _-_, _*_, _/_, _%_, _^_, _≤_, _<_}
-use native.Mathlib.Nat.{mul-assoc, div-eq-of-lt, mod-one}
 use native.Mathlib.Omega.{arith}
 use lib.ListN.{length, getD, take, drop, take-append-drop, length-reverse, length-drop}
 use lib.Seq.{length-take-le, take-take}
 use lib.Arith.{digits-lt}
-use lib.Pow.{pow-add, high, low, shr-shr, field, mod-mod-pow}
+use lib.Pow as Pow
+use lib.Pow.{pow-add, high, low, shr-shr, mod-mod-pow}
 use Rattle.bits.specs.declared.Order.{Order}
 use Rattle.bits.specs.declared.Order.the-variants.{LE, BE}
-use Rattle.bits.specs.Container.{fromDigits, container}
+use Rattle.bits.specs.Container.{fromDigits, container, field}
+use Rattle.bits.proofs.Digits.{digits-append}
 
 -- every element is below 256
 abbrev pub Bytes : List ℕ → Type 0
@@ -40,13 +41,6 @@ digits-bound [] h = omega arith
 digits-bound (b ∷ bs) h =
     let e : 8 * suc (length bs) ≡ 8 * length bs + 8 = omega arith in
     rw (e, pow-add 2 (8 * length bs) 8) (digits-lt (digits-bound bs (h .1)) (h .0))
-
-digits-append : (a b : List ℕ) → fromDigits (a ++ b) ≡ fromDigits b * 2 ^ (8 * length a) + fromDigits a
-digits-append [] b = omega arith
-digits-append (x ∷ xs) b =
-    let e : 8 * suc (length xs) ≡ 8 * length xs + 8 = omega arith in
-    let p : 2 ^ (8 * suc (length xs)) ≡ 2 ^ (8 * length xs) * 256 = rw (e, pow-add 2 (8 * length xs) 8) in
-    rw (digits-append xs b, p) (omega (arith, mul-assoc (fromDigits b) (2 ^ (8 * length xs)) 256))
 
 -- of a list of bytes: a part from the start, lowest first, and highest first
 take-low : (l : List ℕ) (n : ℕ) → n ≤ length l → Bytes l → fromDigits (take n l) ≡ fromDigits l % 2 ^ (8 * n)
@@ -78,7 +72,7 @@ module _ (s : List ℕ) (at n o p : ℕ) (room : at + 8 ≤ length s) (sized : n
       let x : ℕ = fromDigits (take 8 (drop at s)) in
       let e : 8 * n ≡ (8 * n - o - p + p) + o = omega arith in
       let q : fromDigits (take n (drop at s)) ≡ x % 2 ^ (8 * n) = ap fromDigits (sym part) ∙ take-low (take 8 (drop at s)) n (rw eight sized) (bytes-take 8 (drop at s) (bytes-drop at s hb)) in
-      let f : x % 2 ^ (8 * n) / 2 ^ o ≡ x / 2 ^ o % 2 ^ (8 * n - o - p + p) = ap (λ (k : ℕ). x % 2 ^ k / 2 ^ o) e ∙ field x (8 * n - o - p + p) o in
+      let f : x % 2 ^ (8 * n) / 2 ^ o ≡ x / 2 ^ o % 2 ^ (8 * n - o - p + p) = ap (λ (k : ℕ). x % 2 ^ k / 2 ^ o) e ∙ Pow.field x (8 * n - o - p + p) o in
       sym (ap (λ (y : ℕ). y / 2 ^ o % 2 ^ p) q ∙ ap (λ (y : ℕ). y % 2 ^ p) f ∙ mod-mod-pow (x / 2 ^ o) (8 * n - o - p) p)
 
   pub be-window : fromDigits (reverse (take 8 (drop at s))) / 2 ^ (64 - 8 * n + o) % 2 ^ p ≡ fromDigits (reverse (take n (drop at s))) / 2 ^ o % 2 ^ p
@@ -88,6 +82,18 @@ module _ (s : List ℕ) (at n o p : ℕ) (room : at + 8 ≤ length s) (sized : n
       let q : fromDigits (reverse (take n (drop at s))) ≡ y / 2 ^ (8 * (8 - n)) =
       ap (λ (l : List ℕ). fromDigits (reverse l)) (sym part) ∙ take-high (take 8 (drop at s)) n (bytes-take 8 (drop at s) (bytes-drop at s hb)) ∙ ap (λ (k : ℕ). y / 2 ^ (8 * (k - n))) eight in
       sym (ap (λ (z : ℕ). z / 2 ^ o % 2 ^ p) q ∙ ap (λ (z : ℕ). z % 2 ^ p) (shr-shr y (8 * (8 - n)) o) ∙ ap (λ (k : ℕ). y / 2 ^ k % 2 ^ p) e)
+
+  -- the field's place in the eight bytes, in each order
+  abbrev pub within : Order → ℕ
+  within LE = o
+  within BE = 8 * (8 - n) + o
+
+  pub windowed : (b : Order) (r : ℕ) → (r ≡ field (within b) p (container b (take 8 (drop at s)))) × (r < 2 ^ p)
+      → (r ≡ field o p (container b (take n (drop at s)))) × (r < 2 ^ p)
+  windowed LE r h = (h .0 ∙ le-window, h .1)
+  windowed BE r h =
+      let e : 8 * (8 - n) + o ≡ 64 - 8 * n + o = omega arith in
+      (h .0 ∙ ap (λ (k : ℕ). field k p (container BE (take 8 (drop at s)))) e ∙ be-window, h .1)
 
 pub container-bound : (o : Order) (l : List ℕ) (n : ℕ) → length l ≡ n → Bytes l → container o l < 2 ^ (8 * n)
 container-bound LE l n e h = rw e at (digits-bound l h)

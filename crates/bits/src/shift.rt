@@ -2,12 +2,15 @@
 ghost use mathlib.Core.Path.{_≡_};
 ghost use Prim.Native.Nat.{_+_, _-_, _*_, _/_, _%_, _^_, _≤_, _<_};
 
+// The bits of a u64.
+pub const WORD_BITS: u32 = 64;
+
 // x without its k lowest bits, also at the whole width.
 pub fn shift_right(x: u64, k: u32) -> u64
     requires { ⌜ k ≤ 64 ⌝ }
     ensures { λ r. ⌜ r ≡ x / 2 ^ k ⌝ }
 {
-    if k == 64 {
+    if k == WORD_BITS {
         return 0;
     }
     x >> k
@@ -26,7 +29,7 @@ pub fn low_bits(x: u64, k: u32) -> u64
     requires { ⌜ k ≤ 64 ⌝ }
     ensures { λ r. ⌜ (r ≡ x % 2 ^ k) × (r < 2 ^ k) ⌝ }
 {
-    if k == 64 {
+    if k == WORD_BITS {
         return x;
     }
     x % pow2(k)
@@ -37,7 +40,7 @@ pub fn join(high: u64, k: u32, low: u64) -> u64
     requires { ⌜ (k ≤ 64) × (high * 2 ^ k + low < 2 ^ 64) ⌝ }
     ensures { λ r. ⌜ r ≡ high * 2 ^ k + low ⌝ }
 {
-    if k == 64 {
+    if k == WORD_BITS {
         return low;
     }
     (high << k) + low
@@ -48,8 +51,8 @@ pub fn ones(k: u32) -> u64
     requires { ⌜ k ≤ 64 ⌝ }
     ensures { λ r. ⌜ r ≡ 2 ^ k - 1 ⌝ }
 {
-    if k == 64 {
-        return 0xffff_ffff_ffff_ffff;
+    if k == WORD_BITS {
+        return u64::MAX;
     }
     pow2(k) - 1
 }

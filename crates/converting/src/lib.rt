@@ -77,19 +77,7 @@ pub fn convert_planned(
     ensures { λ r. ⌜ ((j : Job s d (now (plan .entry)) n (now (ws .entry)) (now (wd .entry)) (now (words .entry))) → LeavesIn «in_place» handling c (now (out .entry)) (now (other .entry)) (passed (j .source) (j .destination)) r (now (out .exit))) ⌝ }
 {
     if handling == 0 {
-        return Answer::Done(convert_records(
-            in_place,
-            out,
-            other,
-            c,
-            s,
-            d,
-            plan,
-            n,
-            ws,
-            wd,
-            words,
-        ));
+        return Answer::Done(convert_records(in_place, out, other, c, s, d, plan, n, ws, wd, words));
     }
     match first_stop(in_place, out, other, c, s, plan, n, ws, wd, words) {
         Stop::At(i, b, kind) => Answer::Stop(i, b, kind),

@@ -14,6 +14,7 @@ ghost use mathlib.Core.Bool.{_&&_};
 ghost use Rattle.easy.specs.Easy.{inside, easy, shiftOf, carryOf, easyWords, wordsOf, withWords};
 ghost use Rattle.easy.specs.Words.{EasyBy, EasyAt};
 ghost use Rattle.entry_code.specs.Code.{packed};
+use bits::BitAt;
 use bits::ByteAt;
 use bits::Order;
 use bits::bits_of;
@@ -52,9 +53,9 @@ pub fn raw_by(src: &[u8], a: usize, order: usize, shift: u32, precision: u32) ->
     ensures { λ r. ⌜ (r ≡ field shift precision (container (orderOf (order - 1)) (take 8 (drop a (now (src .entry)))))) × (r < 2 ^ precision) ⌝ }
 {
     if order == EASY_LE {
-        return bits_le(src, a, shift, precision);
+        return bits_le(src, ByteAt(a), BitAt(shift), precision);
     }
-    bits_be(src, a, shift, precision)
+    bits_be(src, ByteAt(a), BitAt(shift), precision)
 }
 
 // Converts the leaf at byte a of src into the leaf at byte b of dst, by the numbers of an easy pair.
@@ -75,7 +76,7 @@ pub fn convert_by(
 {
     let raw = raw_by(src, a, order, shift, precision);
     let wide = raw + carry * (raw >> (precision - 1));
-    storing::store(dst, b, size, order_of(into), wide);
+    storing::store(dst, ByteAt(b), ByteAt(size), order_of(into), wide);
 }
 
 // The carry of the pair whose words stand from word k of w on.

@@ -2,66 +2,110 @@
 ghost use mathlib.Core.Path.{_≡_};
 ghost use Prim.Native.Nat.{_^_, _≤_, _<_};
 ghost use mathlib.Core.Bool.{true, false};
+ghost use lib.IntN.{pos};
 ghost use Rattle.layout.specs.Layout.{Valid};
-ghost use Rattle.number.specs.Number.{valued, fittedTo, fitted};
-ghost use Rattle.number.specs.Parts.{meaning, signedBy};
+ghost use Rattle.number.specs.Number.{valued, largest, smallest, bitsOf, fittedTo, fitted};
+ghost use Rattle.number.specs.Parts.{meaning};
+ghost use Rattle.fitting.specs.Signed.{InSigned};
 use bits::shift::ones;
 use layout::Layout;
+use number::ABOVE;
+use number::BELOW;
 use number::Fitted;
+use number::NO_EXCEPTION;
 use number::Number;
-use number::Parts;
+use number::sign::above;
+use number::sign::below;
 use number::sign::number_of;
-use number::sign::split;
 
-fn fit_unsigned(z: Parts, precision: u32) -> Fitted
-    requires { ⌜ precision ≤ 64 ⌝ }
-    ensures { λ r. ⌜ r ≡ fittedTo false precision (signedBy (z .negative) (z .distance)) ⌝ }
+// The ends of the signed range of these many bits. At 64 they are i64's own.
+fn largest_signed(precision: u32) -> i64
+    requires { ⌜ (1 ≤ precision) × (precision ≤ 64) ⌝ }
+    ensures { λ r. ⌜ r ≡ largest true precision ⌝ }
 {
-    let largest = ones(precision);
-    if z.negative {
-        return Fitted { raw: 0, kind: 2 };
+    above(ones(precision - 1))
+}
+
+fn smallest_signed(precision: u32) -> i64
+    requires { ⌜ (1 ≤ precision) × (precision ≤ 64) ⌝ }
+    ensures { λ r. ⌜ r ≡ smallest true precision ⌝ }
+{
+    below(ones(precision - 1))
+}
+
+// The significant bits of a signed number that lies in the signed range of these many bits.
+fn signed_bits(z: i64, precision: u32) -> u64
+    requires { ⌜ (1 ≤ precision) × (precision ≤ 64) × InSigned precision z ⌝ }
+    ensures { λ r. ⌜ r ≡ bitsOf precision z ⌝ }
+{
+    if z < 0 {
+        return ones(precision) - (!z as u64);
     }
-    if largest < z.distance {
-        return Fitted {
-            raw: largest,
-            kind: 1,
-        };
+    z as u64
+}
+
+// A signed number brought into a signed range.
+fn fit_signed(z: i64, precision: u32) -> Fitted
+    requires { ⌜ (1 ≤ precision) × (precision ≤ 64) ⌝ }
+    ensures { λ r. ⌜ r ≡ fittedTo true precision z ⌝ }
+{
+    let largest = largest_signed(precision);
+    let smallest = smallest_signed(precision);
+    if largest < z {
+        let raw = signed_bits(largest, precision);
+        return Fitted { raw, kind: ABOVE };
+    }
+    if z < smallest {
+        let raw = signed_bits(smallest, precision);
+        return Fitted { raw, kind: BELOW };
     }
     Fitted {
-        raw: z.distance,
-        kind: 0,
+        raw: signed_bits(z, precision),
+        kind: NO_EXCEPTION,
     }
 }
 
-fn fit_signed(z: Parts, precision: u32) -> Fitted
+// The largest number of either range: a u64, since neither range ends below 0.
+fn largest_of(signed: bool, precision: u32) -> u64
     requires { ⌜ (1 ≤ precision) × (precision ≤ 64) ⌝ }
-    ensures { λ r. ⌜ r ≡ fittedTo true precision (signedBy (z .negative) (z .distance)) ⌝ }
+    ensures { λ r. ⌜ pos r ≡ largest signed precision ⌝ }
 {
-    let largest = ones(precision - 1);
-    let all = ones(precision);
-    let smallest = all - largest;
-    if z.negative {
-        if largest < z.distance {
-            return Fitted {
-                raw: smallest,
-                kind: 2,
-            };
-        }
-        return Fitted {
-            raw: all - z.distance,
-            kind: 0,
-        };
+    if signed {
+        return ones(precision - 1);
     }
-    if largest < z.distance {
+    ones(precision)
+}
+
+// A number that is not negative brought into either range.
+fn fit_unsigned(n: u64, signed: bool, precision: u32) -> Fitted
+    requires { ⌜ (1 ≤ precision) × (precision ≤ 64) ⌝ }
+    ensures { λ r. ⌜ r ≡ fittedTo signed precision (pos n) ⌝ }
+{
+    let largest = largest_of(signed, precision);
+    if largest < n {
         return Fitted {
             raw: largest,
-            kind: 1,
+            kind: ABOVE,
         };
     }
     Fitted {
-        raw: z.distance,
-        kind: 0,
+        raw: n,
+        kind: NO_EXCEPTION,
     }
+}
+
+// A signed number brought into an unsigned range.
+fn fit_into_unsigned(z: i64, precision: u32) -> Fitted
+    requires { ⌜ (1 ≤ precision) × (precision ≤ 64) ⌝ }
+    ensures { λ r. ⌜ r ≡ fittedTo false precision z ⌝ }
+{
+    if z < 0 {
+        return Fitted {
+            raw: 0,
+            kind: BELOW,
+        };
+    }
+    fit_unsigned(z as u64, false, precision)
 }
 
 // z brought into l's range: its significant bits, and the kind of exception.
@@ -69,11 +113,14 @@ pub fn fit(z: Number, l: Layout) -> Fitted
     requires { ⌜ Valid l ⌝ }
     ensures { λ r. ⌜ (r ≡ fitted l (meaning z)) × (r .raw < 2 ^ l .precision) ⌝ }
 {
-    let p = split(z);
-    if l.signed {
-        fit_signed(p, l.precision)
-    } else {
-        fit_unsigned(p, l.precision)
+    match z {
+        Number::Signed(z) => {
+            if l.signed {
+                return fit_signed(z, l.precision);
+            }
+            fit_into_unsigned(z, l.precision)
+        }
+        Number::Unsigned(n) => fit_unsigned(n, l.signed, l.precision),
     }
 }
 
@@ -102,7 +149,7 @@ pub fn fit_raw(l: Layout, m: Layout, raw: u64) -> Fitted
             if p <= q {
                 return Fitted {
                     raw: widened(raw, p, true, q),
-                    kind: 0,
+                    kind: NO_EXCEPTION,
                 };
             }
         }
@@ -110,12 +157,18 @@ pub fn fit_raw(l: Layout, m: Layout, raw: u64) -> Fitted
     }
     if m.signed {
         if p < q {
-            return Fitted { raw, kind: 0 };
+            return Fitted {
+                raw,
+                kind: NO_EXCEPTION,
+            };
         }
         return fit(number_of(false, p, raw), m);
     }
     if p <= q {
-        return Fitted { raw, kind: 0 };
+        return Fitted {
+            raw,
+            kind: NO_EXCEPTION,
+        };
     }
     fit(number_of(false, p, raw), m)
 }

@@ -1,11 +1,17 @@
 // Reads a container: the number that some bytes hold, and a field of its bits.
 ghost use mathlib.Core.Path.{_≡_};
-ghost use Prim.Native.Nat.{_+_, _-_, _*_, _^_, _≤_, _<_};
+ghost use Prim.Native.Nat.{_+_, _*_, _^_, _≤_, _<_};
 ghost use lib.ListN.{length, take, drop, getD};
 ghost use Rattle.bits.specs.Container.{container, field};
+use bits::BitAt;
+use bits::ByteAt;
 use bits::Order;
+use bits::bits_of;
 use bits::index_of;
 use bits::shift::low_bits;
+
+// What a window reads at once, whatever the size of the place.
+pub const WINDOW: ByteAt = ByteAt(8);
 
 // The number that size bytes of s from index at hold, for any size.
 fn load_any(s: &[u8], at: usize, size: usize, order: Order) -> u64
@@ -30,39 +36,54 @@ fn wide(x: u8) -> u64
 
 // The byte of s at index i, at the place whose value is place.
 fn digit(s: &[u8], i: usize, place: u64) -> u64
-    requires { ⌜ (i < length (now s)) × (place ≤ 72057594037927936) ⌝ }
-    ensures { λ r. ⌜ (r ≡ getD (now (s .entry)) i 0 * place) × (getD (now (s .entry)) i 0 < 256) ⌝ }
+    requires { ⌜ (i < length (now s)) × (255 * place < 2 ^ 64) ⌝ }
+    ensures { λ r. ⌜ (r ≡ getD (now (s .entry)) i 0 * place) × (r ≤ 255 * place) ⌝ }
 {
     wide(s[i]) * place
 }
 
-// Straight-line reads of two, four and eight bytes: at most four digits in a sum, which the compiler turns into one load.
+// Straight-line reads: the sum of two or four bytes of s from index at on, each at its place. The compiler turns at most four
+// digits in a sum into one load, where the places are constants.
+fn two(s: &[u8], at: usize, a: u64, b: u64) -> u64
+    requires { ⌜ (at + 2 ≤ length (now s)) × (255 * (a + b) < 2 ^ 64) ⌝ }
+    ensures { λ r. ⌜ (r ≡ getD (now (s .entry)) at 0 * a + getD (now (s .entry)) (at + 1) 0 * b) × (r ≤ 255 * (a + b)) ⌝ }
+{
+    digit(s, at, a) + digit(s, at + 1, b)
+}
+
+fn four(s: &[u8], at: usize, a: u64, b: u64, c: u64, d: u64) -> u64
+    requires { ⌜ (at + 4 ≤ length (now s)) × (255 * (a + b + c + d) < 2 ^ 64) ⌝ }
+    ensures { λ r. ⌜ (r ≡ getD (now (s .entry)) at 0 * a + getD (now (s .entry)) (at + 1) 0 * b + getD (now (s .entry)) (at + 2) 0 * c + getD (now (s .entry)) (at + 3) 0 * d) × (r ≤ 255 * (a + b + c + d)) ⌝ }
+{
+    digit(s, at, a) + digit(s, at + 1, b) + digit(s, at + 2, c) + digit(s, at + 3, d)
+}
+
 fn le2(s: &[u8], at: usize) -> u64
     requires { ⌜ at + 2 ≤ length (now s) ⌝ }
     ensures { λ r. ⌜ (r ≡ container Order.LE (take 2 (drop at (now (s .entry))))) × (r < 65536) ⌝ }
 {
-    digit(s, at, 1) + digit(s, at + 1, 256)
+    two(s, at, 1, 256)
 }
 
 fn be2(s: &[u8], at: usize) -> u64
     requires { ⌜ at + 2 ≤ length (now s) ⌝ }
     ensures { λ r. ⌜ (r ≡ container Order.BE (take 2 (drop at (now (s .entry))))) × (r < 65536) ⌝ }
 {
-    digit(s, at, 256) + digit(s, at + 1, 1)
+    two(s, at, 256, 1)
 }
 
 fn le4(s: &[u8], at: usize) -> u64
     requires { ⌜ at + 4 ≤ length (now s) ⌝ }
     ensures { λ r. ⌜ (r ≡ container Order.LE (take 4 (drop at (now (s .entry))))) × (r < 4294967296) ⌝ }
 {
-    digit(s, at, 1) + digit(s, at + 1, 256) + digit(s, at + 2, 65536) + digit(s, at + 3, 16777216)
+    four(s, at, 1, 256, 65536, 16777216)
 }
 
 fn be4(s: &[u8], at: usize) -> u64
     requires { ⌜ at + 4 ≤ length (now s) ⌝ }
     ensures { λ r. ⌜ (r ≡ container Order.BE (take 4 (drop at (now (s .entry))))) × (r < 4294967296) ⌝ }
 {
-    digit(s, at, 16777216) + digit(s, at + 1, 65536) + digit(s, at + 2, 256) + digit(s, at + 3, 1)
+    four(s, at, 16777216, 65536, 256, 1)
 }
 
 // The four bytes of be4 in the high half.
@@ -70,10 +91,14 @@ fn be4_high(s: &[u8], at: usize) -> u64
     requires { ⌜ at + 4 ≤ length (now s) ⌝ }
     ensures { λ r. ⌜ (r ≡ container Order.BE (take 4 (drop at (now (s .entry)))) * 4294967296) × (r ≤ 18446744069414584320) ⌝ }
 {
-    digit(s, at, 72057594037927936)
-        + digit(s, at + 1, 281474976710656)
-        + digit(s, at + 2, 1099511627776)
-        + digit(s, at + 3, 4294967296)
+    four(
+        s,
+        at,
+        72057594037927936,
+        281474976710656,
+        1099511627776,
+        4294967296,
+    )
 }
 
 fn le8(s: &[u8], at: usize) -> u64
@@ -114,40 +139,58 @@ fn load_be(s: &[u8], at: usize, size: usize) -> u64
     }
 }
 
-// The number that size bytes of s from index at hold.
-pub fn load(s: &[u8], at: usize, size: usize, order: Order) -> u64
-    requires { ⌜ (size ≤ 8) × (at + size ≤ length (now s)) ⌝ }
-    ensures { λ r. ⌜ (r ≡ container order (take size (drop at (now (s .entry))))) × (r < 2 ^ (8 * size)) ⌝ }
+// The number that size bytes of s from byte at on hold.
+pub fn load(s: &[u8], at: ByteAt, size: ByteAt, order: Order) -> u64
+    requires { ⌜ (size .0 ≤ 8) × (at .0 + size .0 ≤ length (now s)) ⌝ }
+    ensures { λ r. ⌜ (r ≡ container order (take (size .0) (drop (at .0) (now (s .entry))))) × (r < 2 ^ (8 * size .0)) ⌝ }
 {
     match order {
-        Order::LE => load_le(s, at, size),
-        Order::BE => load_be(s, at, size),
+        Order::LE => load_le(s, at.0, size.0),
+        Order::BE => load_be(s, at.0, size.0),
     }
 }
 
-// Some bits of the eight bytes of s from index at on, whose bit 0 is at the lowest address.
-pub fn bits_le(s: &[u8], at: usize, shift: u32, precision: u32) -> u64
-    requires { ⌜ (at + 8 ≤ length (now s)) × (shift < 64) × (precision ≤ 64) ⌝ }
-    ensures { λ r. ⌜ (r ≡ field shift precision (container Order.LE (take 8 (drop at (now (s .entry)))))) × (r < 2 ^ precision) ⌝ }
+// Some bits of the container c.
+pub fn field_of(c: u64, offset: BitAt, precision: u32) -> u64
+    requires { ⌜ (offset .0 < 64) × (precision ≤ 64) ⌝ }
+    ensures { λ r. ⌜ (r ≡ field (offset .0) precision c) × (r < 2 ^ precision) ⌝ }
 {
-    low_bits(le8(s, at) >> shift, precision)
+    low_bits(c >> offset.0, precision)
+}
+
+// Some bits of the eight bytes of s from byte at on, whose bit 0 is at the lowest address.
+pub fn bits_le(s: &[u8], at: ByteAt, offset: BitAt, precision: u32) -> u64
+    requires { ⌜ (at .0 + 8 ≤ length (now s)) × (offset .0 < 64) × (precision ≤ 64) ⌝ }
+    ensures { λ r. ⌜ (r ≡ field (offset .0) precision (container Order.LE (take 8 (drop (at .0) (now (s .entry)))))) × (r < 2 ^ precision) ⌝ }
+{
+    field_of(le8(s, at.0), offset, precision)
 }
 
 // The same where bit 0 is at the highest address.
-pub fn bits_be(s: &[u8], at: usize, shift: u32, precision: u32) -> u64
-    requires { ⌜ (at + 8 ≤ length (now s)) × (shift < 64) × (precision ≤ 64) ⌝ }
-    ensures { λ r. ⌜ (r ≡ field shift precision (container Order.BE (take 8 (drop at (now (s .entry)))))) × (r < 2 ^ precision) ⌝ }
+pub fn bits_be(s: &[u8], at: ByteAt, offset: BitAt, precision: u32) -> u64
+    requires { ⌜ (at .0 + 8 ≤ length (now s)) × (offset .0 < 64) × (precision ≤ 64) ⌝ }
+    ensures { λ r. ⌜ (r ≡ field (offset .0) precision (container Order.BE (take 8 (drop (at .0) (now (s .entry)))))) × (r < 2 ^ precision) ⌝ }
 {
-    low_bits(be8(s, at) >> shift, precision)
+    field_of(be8(s, at.0), offset, precision)
 }
 
-// The significant bits of a place, by one read of eight bytes.
-pub fn window(s: &[u8], at: usize, size: usize, order: Order, offset: u32, precision: u32) -> u64
-    requires { ⌜ (at + 8 ≤ length (now s)) × (size ≤ 8) × (1 ≤ precision) × (offset + precision ≤ 8 * size) ⌝ }
-    ensures { λ r. ⌜ (r ≡ field offset precision (container order (take size (drop at (now (s .entry)))))) × (r < 2 ^ precision) ⌝ }
+// The significant bits of a place, by one read of eight bytes. In BE the bytes behind the place lie below its bit 0.
+pub fn window(
+    s: &[u8],
+    at: ByteAt,
+    size: ByteAt,
+    order: Order,
+    offset: BitAt,
+    precision: u32,
+) -> u64
+    requires { ⌜ (at .0 + 8 ≤ length (now s)) × (size .0 ≤ 8) × (1 ≤ precision) × (offset .0 + precision ≤ 8 * size .0) ⌝ }
+    ensures { λ r. ⌜ (r ≡ field (offset .0) precision (container order (take (size .0) (drop (at .0) (now (s .entry)))))) × (r < 2 ^ precision) ⌝ }
 {
     match order {
         Order::LE => bits_le(s, at, offset, precision),
-        Order::BE => bits_be(s, at, 64 - 8 * (size as u32) + offset, precision),
+        Order::BE => {
+            let behind = bits_of(ByteAt(WINDOW.0 - size.0));
+            bits_be(s, at, BitAt(behind.0 + offset.0), precision)
+        }
     }
 }

@@ -1,4 +1,4 @@
-// Reads, fits and stores one number in a place of some bytes.
+// One number: its forms, what bringing it into a range gives, and the kinds of exception.
 
 pub mod sign;
 
@@ -14,8 +14,19 @@ pub struct Parts {
     pub distance: u64,
 }
 
-// A number brought into a range: its significant bits, and the kind of the exception, 0 for none.
+// A number brought into a range: its significant bits, and the kind of exception.
 pub struct Fitted {
     pub raw: u64,
     pub kind: u32,
 }
+
+// The kinds of exception.
+pub const NO_EXCEPTION: u32 = 0;
+
+// The number lies above the destination's range, or below it.
+pub const ABOVE: u32 = 1;
+
+pub const BELOW: u32 = 2;
+
+// The source has no symbol for the number, or the destination no number for the symbol.
+pub const NO_SYMBOL: u32 = 3;

@@ -25,11 +25,11 @@ use entry_code::size_in;
 use fitting::fit_raw;
 use layout::Layout;
 use number::Fitted;
+use number::NO_SYMBOL;
 use number::sign::number_of;
 use number::sign::split;
 use placing::raw_at;
 use placing::store;
-use row_codes::NO_SYMBOL;
 use row_codes::code_bits;
 use row_codes::looked_code;
 use row_codes::span_code;
@@ -133,7 +133,13 @@ pub fn convert_enum_fast(
     let order = route_in(code) + EASY_LE - SPAN_LE;
     let raw = raw_by(src, a, order, shift_in(code), precision_in(code));
     let f = code_bits(wd, span_code(words, k, raw), bits_in(code));
-    storing::store(dst, b, size_in(code), order_of(order_in(code)), f.raw);
+    storing::store(
+        dst,
+        ByteAt(b),
+        ByteAt(size_in(code)),
+        order_of(order_in(code)),
+        f.raw,
+    );
     f.kind
 }
 

@@ -12,6 +12,10 @@ use bits::shift::ones;
 use bits::shift::shift_right;
 use layout::Layout;
 use layout::Pad;
+use loading::WINDOW;
+use loading::field_of;
+use loading::load;
+use loading::window;
 
 // The significant bits in l's place at byte at of s.
 pub fn raw_at(s: &[u8], at: ByteAt, l: Layout) -> u64
@@ -19,12 +23,10 @@ pub fn raw_at(s: &[u8], at: ByteAt, l: Layout) -> u64
     ensures { λ r. ⌜ (r ≡ rawAt l (at .0) (now (s .entry))) × (r < 2 ^ l .precision) ⌝ }
 {
     let order = l.order;
-    let at = at.0;
-    if 8 <= s.len() - at {
-        return loading::window(s, at, l.size.0, order, l.offset.0, l.precision);
+    if WINDOW.0 <= s.len() - at.0 {
+        return window(s, at, l.size, order, l.offset, l.precision);
     }
-    let c = loading::load(s, at, l.size.0, order);
-    low_bits(shift_right(c, l.offset.0), l.precision)
+    field_of(load(s, at, l.size, order), l.offset, l.precision)
 }
 
 // width bits beside the significant ones.
@@ -59,14 +61,12 @@ pub fn store(d: &mut [u8], at: ByteAt, l: Layout, raw: u64)
     ensures { λ _. ⌜ now (d .exit) ≡ stored l (at .0) raw (now (d .entry)) ⌝ }
 {
     let order = l.order;
-    let at = at.0;
-    let size = l.size.0;
     if l.offset.0 == 0 {
         if l.precision == bits_of(l.size).0 {
-            storing::store(d, at, size, order, raw);
+            storing::store(d, at, l.size, order, raw);
             return;
         }
     }
-    let g = loading::load(d, at, size, order);
-    storing::store(d, at, size, order, fill(l, g, raw));
+    let g = load(d, at, l.size, order);
+    storing::store(d, at, l.size, order, fill(l, g, raw));
 }

@@ -10,6 +10,7 @@ ghost use Rattle.plans.specs.LeafSteps.{allOnes, codeBits, lookedCode};
 use bits::shift::ones;
 use easy::at;
 use number::Fitted;
+use number::NO_SYMBOL;
 use number::Parts;
 use row_lookup::row_numbered;
 use table::CLASS;
@@ -26,9 +27,6 @@ use table::codes::flag_of;
 use table::read::row_word;
 use table::read::type_word;
 use table::read::word;
-
-// The kind of exception where a symbol is missing.
-pub const NO_SYMBOL: u32 = 3;
 
 // a - b, and 0 where b is larger.
 fn minus(a: u64, b: u64) -> u64

@@ -20,20 +20,6 @@ fn byte_of(c: u64, k: ByteAt) -> u8
     (shift_right(c, k.0) % 256) as u8
 }
 
-// The size bytes of c, written to d from index at, for any size.
-fn put_any(d: &mut [u8], at: usize, size: usize, order: Order, c: u64)
-    requires { ⌜ (size ≤ 8) × (at + size ≤ length (now d)) ⌝ }
-    ensures { λ _. ⌜ now (d .exit) ≡ paste (now (d .entry)) at (contained order size c) size ⌝ }
-{
-    let mut i = 0;
-    while i < size {
-        let j = at + i;
-        let k = index_of(order, size, i);
-        d[j] = byte_of(c, ByteAt(k));
-        i += 1;
-    }
-}
-
 // The byte at place i of c's size bytes, written to d.
 fn put_one(d: &mut [u8], at: usize, size: usize, order: Order, c: u64, i: usize)
     requires { ⌜ (size ≤ 8) × (i < size) × (at + size ≤ length (now d)) ⌝ }
@@ -42,6 +28,18 @@ fn put_one(d: &mut [u8], at: usize, size: usize, order: Order, c: u64, i: usize)
     let j = at + i;
     let k = index_of(order, size, i);
     d[j] = byte_of(c, ByteAt(k));
+}
+
+// The size bytes of c, written to d from index at, for any size.
+fn put_any(d: &mut [u8], at: usize, size: usize, order: Order, c: u64)
+    requires { ⌜ (size ≤ 8) × (at + size ≤ length (now d)) ⌝ }
+    ensures { λ _. ⌜ now (d .exit) ≡ paste (now (d .entry)) at (contained order size c) size ⌝ }
+{
+    let mut i = 0;
+    while i < size {
+        put_one(d, at, size, order, c, i);
+        i += 1;
+    }
 }
 
 fn put1(d: &mut [u8], at: usize, order: Order, c: u64)
@@ -111,14 +109,14 @@ fn put_be(d: &mut [u8], at: usize, size: usize, c: u64)
     }
 }
 
-// The size bytes of c, written to d from index at. Each order has a function of its own, where it is a constant: two calls that
+// The size bytes of c, written to d from byte at on. Each order has a function of its own, where it is a constant: two calls that
 // differ in a constant alone are merged by the compiler, and the constant is lost.
-pub fn store(d: &mut [u8], at: usize, size: usize, order: Order, c: u64)
-    requires { ⌜ (size ≤ 8) × (at + size ≤ length (now d)) ⌝ }
-    ensures { λ _. ⌜ now (d .exit) ≡ paste (now (d .entry)) at (contained order size c) size ⌝ }
+pub fn store(d: &mut [u8], at: ByteAt, size: ByteAt, order: Order, c: u64)
+    requires { ⌜ (size .0 ≤ 8) × (at .0 + size .0 ≤ length (now d)) ⌝ }
+    ensures { λ _. ⌜ now (d .exit) ≡ paste (now (d .entry)) (at .0) (contained order (size .0) c) (size .0) ⌝ }
 {
     match order {
-        Order::LE => put_le(d, at, size, c),
-        Order::BE => put_be(d, at, size, c),
+        Order::LE => put_le(d, at.0, size.0, c),
+        Order::BE => put_be(d, at.0, size.0, c),
     }
 }

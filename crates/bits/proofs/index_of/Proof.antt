@@ -1,5 +1,4 @@
 -- `bits::index_of` meets its contract. Assumes nothing.
-use mathlib.Core.Path.{_≡_, refl}
 use native.Mathlib.Omega.{arith}
 use borrow.Author.Needs.{needs}
 use Rattle.bits.proofs.index_of.Statement.{statement}

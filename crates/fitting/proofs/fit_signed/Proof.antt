@@ -1,48 +1,67 @@
--- `fitting::fit_signed` meets its contract. Each return takes its case of `fittedTo` (`Range`). Assumes nothing.
-use mathlib.Core.Path.{_≡_, refl, sym}
-use native.Mathlib.Nat.{le-trans}
-use Rattle.number.proofs.Range.{most-le, sub-one-sub, signed-above, signed-inside, signed-below, signed-negative}
+-- `fitting::fit_signed` meets its contract. Each return takes its case of `fittedTo` (`Ends`). Assumes nothing.
 use borrow.Author.Needs.{needs}
+use Rattle.fitting.proofs.Ends.{largest-in, smallest-in, number-in, signed-over, signed-under, signed-in}
 use Rattle.fitting.proofs.fit_signed.Statement.{statement}
 use Rattle.fitting.proofs.fit_signed.Tie as tie
 
-sub-ones : tie.Need-sub-ones
-sub-ones c = search needs
-
-ones-requires : tie.Need-ones-requires
-ones-requires c κs = search needs
-
-ones-requires-2 : tie.Need-ones-requires-2
-ones-requires-2 c κs = search needs
-
-sub-smallest : tie.Need-sub-smallest
-sub-smallest c = rw (c .before .ones .ensures, c .ones2 .ensures) (most-le _)
+signed-bits-requires : tie.Need-signed-bits-requires
+signed-bits-requires c κs =
+    let l = c .before in
+    let m = l .before in
+    let start = m .before in
+    (start .pre .0, start .pre .1, largest-in (start .args .precision) (start .args .z) _ _ (start .pre .1) (start .fits .z) (m .largest-signed .ensures) (l .smallest-signed .ensures))
 
 returns : tie.Need-returns
 returns c =
-    let m = c .before .before .before .before .ones .ensures in
-    rw (c .before .before .if1 .taken, signed-below _ _ (rw m at (c .if2 .taken)), m, c .before .before .before .ones2 .ensures, sub-one-sub)
+    let l = c .before .before in
+    let m = l .before in
+    let start = m .before in
+    signed-over (start .args .precision) (start .args .z) _ _ (start .pre .1) (start .fits .z) (m .largest-signed .ensures) (l .smallest-signed .ensures)
+    (c .before .if1 .taken) (c .signed-bits .ensures)
 
-sub-t9 : tie.Need-sub-t9
-sub-t9 c =
-    let m = c .before .before .before .before .before .ones .ensures in
-    rw (c .before .before .before .before .ones2 .ensures) (le-trans (rw m at (c .before .if2 .left)) (most-le _))
+signed-bits-requires-2 : tie.Need-signed-bits-requires-2
+signed-bits-requires-2 c κs =
+    let l = c .before .before in
+    let m = l .before in
+    let start = m .before in
+    (start .pre .0, start .pre .1, smallest-in (start .args .precision) (start .args .z) _ _ (start .pre .1) (start .fits .z) (m .largest-signed .ensures) (l .smallest-signed .ensures))
 
 returns-2 : tie.Need-returns-2
 returns-2 c =
-    let m = c .before .before .before .before .before .ones .ensures in
-    rw (c .before .before .before .if1 .taken, signed-negative _ _ (rw m at (c .before .if2 .left)), c .before .before .before .before .ones2 .ensures, sub-one-sub)
+    let l = c .before .before .before in
+    let m = l .before in
+    let start = m .before in
+    signed-under (start .args .precision) (start .args .z) _ _ (start .pre .1) (start .fits .z) (m .largest-signed .ensures) (l .smallest-signed .ensures)
+    (c .before .before .if1 .left) (c .before .if2 .taken) (c .signed-bits2 .ensures)
+
+signed-bits-requires-3 : tie.Need-signed-bits-requires-3
+signed-bits-requires-3 c κs =
+    let l = c .before .before in
+    let m = l .before in
+    let start = m .before in (
+      start .pre .0,
+      start .pre .1,
+      number-in (start .args .precision) (start .args .z) _ _ (start .pre .1) (start .fits .z) (m .largest-signed .ensures) (l .smallest-signed .ensures)
+          (c .before .if1 .left) (c .if2 .left),
+    )
 
 returns-3 : tie.Need-returns-3
 returns-3 c =
-    let m = c .before .before .before .before .ones .ensures in
-    rw (c .before .before .if1 .left, signed-above _ _ (rw m at (c .if3 .taken)), m)
-
-returns-4 : tie.Need-returns-4
-returns-4 c =
-    let m = c .before .before .before .before .ones .ensures in
-    rw (c .before .before .if1 .left, signed-inside _ _ (rw m at (c .if3 .left)))
+    let l = c .before .before .before in
+    let m = l .before in
+    let start = m .before in
+    signed-in (start .args .precision) (start .args .z) _ _ (start .pre .1) (start .fits .z) (m .largest-signed .ensures) (l .smallest-signed .ensures)
+    (c .before .before .if1 .left) (c .before .if2 .left) (c .signed-bits3 .ensures)
 
 pub fit-signed-spec : {M : Type 1} → statement M
 fit-signed-spec =
-    tie.close (tie.spec sub-ones ones-requires ones-requires-2 sub-smallest returns sub-t9 returns-2 returns-3 returns-4)
+    tie.close
+    (tie.spec
+    (λ c κs. search needs)
+    (λ c κs. search needs)
+    signed-bits-requires
+    returns
+    signed-bits-requires-2
+    returns-2
+    signed-bits-requires-3
+    returns-3)

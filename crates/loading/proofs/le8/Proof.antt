@@ -1,32 +1,16 @@
 -- `loading::le8` meets its contract. Assumes nothing.
-use Prim.Native.Nat.{ℕ, _+_, _*_, _^_, _≤_, _<_}
-use mathlib.Core.Path.{_≡_, ap, ap₂, sym, _∙_}
 use native.Mathlib.Omega.{arith}
 use denote.Ref.{now}
-use Rattle.bits.proofs.Words.{le8-join}
+use Rattle.bits.specs.declared.Order.the-variants.{LE}
+use Rattle.bits.proofs.Words.{two-parts}
 use borrow.Author.Needs.{needs}
 use Rattle.loading.proofs.le8.Statement.{statement}
 use Rattle.loading.proofs.le8.Tie as tie
 
-le4-requires : tie.Need-le4-requires
-le4-requires c κs = search needs
-
-add-le4 : tie.Need-add-le4
-add-le4 c = search needs
-
-le4-requires-2 : tie.Need-le4-requires-2
-le4-requires-2 c κs = search needs
-
-mul-result : tie.Need-mul-result
-mul-result c = search needs
-
-add-result : tie.Need-add-result
-add-result c = search needs
-
 returns : tie.Need-returns
 returns c =
-    let a = c .before .before .before .args in
-    (omega (arith, le8-join (now (a .s)) (a .at) (c .before .before .before .pre)), omega arith)
+    let start = c .before .before .before in
+    (omega (arith, two-parts LE (now (start .args .s)) (start .args .at) 4 4 (start .pre)), omega arith)
 
 pub le8-spec : {M : Type 1} → statement M
-le8-spec = tie.close (tie.spec le4-requires add-le4 le4-requires-2 mul-result add-result returns)
+le8-spec = tie.close (tie.spec (λ c κs. search needs) (λ c. search needs) (λ c κs. search needs) (λ c. search needs) (λ c. search needs) returns)

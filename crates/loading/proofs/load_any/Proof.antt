@@ -1,13 +1,13 @@
 -- `loading::load_any` meets its contract. The invariant: c is the number of the digits from k up, and has no more bits than they have. Assumes nothing.
-use Prim.Native.Nat.{ℕ, _+_, _-_, _*_, _^_, _≤_, _<_}
-use mathlib.Core.Path.{_≡_, refl}
+use Prim.Native.Nat.{_+_, _-_, _*_, _^_, _≤_, _<_}
+use mathlib.Core.Path.{_≡_}
 use native.Mathlib.Omega.{arith}
 use native.Mathlib.Nat.{le-refl, lt-of-lt-of-le}
 use borrow.Author.Needs.{needs}
 use denote.Ref.{now}
 use lib.Dec.{lit<}
 use lib.Pow.{pow-pos, pow-mono}
-use lib.ListN.{length, getD, take, drop}
+use lib.ListN.{getD, take, drop}
 use Rattle.bits.specs.Container.{arranged, fromDigits}
 use Rattle.bits.proofs.Digits.{load-none, load-step, step-lt, step-fits}
 use Rattle.loading.proofs.load_any.Statement.{statement}

@@ -1,5 +1,5 @@
 -- `one_number::read` meets its contract. The calls' contracts compose to the definition. Assumes nothing.
-use mathlib.Core.Path.{_≡_, ap, _∙_}
+use mathlib.Core.Path.{ap, _∙_}
 use borrow.Author.Needs.{needs}
 use Rattle.number.specs.Number.{valued}
 use Rattle.one_number.proofs.read.Statement.{statement}

@@ -1,5 +1,4 @@
 -- `placing::pad_bits` meets its contract. Assumes nothing.
-use Prim.Native.Nat.{_<_, _^_}
 use lib.Pow.{ones-lt}
 use borrow.Author.Needs.{needs}
 use Rattle.placing.proofs.pad_bits.Statement.{statement}

@@ -1,6 +1,4 @@
 -- `storing::byte_of` meets its contract. Assumes nothing.
-use Prim.Native.Nat.{ℕ, _/_, _%_, _^_}
-use mathlib.Core.Path.{_≡_, refl, ap, _∙_}
 use borrow.Author.Needs.{needs}
 use Rattle.storing.proofs.byte_of.Statement.{statement}
 use Rattle.storing.proofs.byte_of.Tie as tie

@@ -1,31 +1,19 @@
 -- `storing::put8` meets its contract. Assumes nothing.
-use mathlib.Core.Path.{_≡_, ap, _∙_}
-use mathlib.Core.List.{List}
-use Prim.Native.Nat.{ℕ}
-use Rattle.bits.specs.Container.{contained}
-use Rattle.bits.specs.Index.{setAll}
 use denote.Ref.{now}
-use Rattle.bits.proofs.Words.{put-all}
+use Rattle.bits.specs.Container.{contained}
+use Rattle.bits.proofs.Words.{set-on, put-all}
 use borrow.Author.Needs.{needs}
 use Rattle.storing.proofs.put8.Statement.{statement}
 use Rattle.storing.proofs.put8.Tie as tie
 
-put-four-requires : tie.Need-put-four-requires
-put-four-requires c κs = search needs
-
-put-four-requires-2 : tie.Need-put-four-requires-2
-put-four-requires-2 c κs = search needs
-
-same-length : tie.Need-same-length
-same-length c = search needs
-
 returns : tie.Need-returns
 returns c =
-    let a = c .before .before .before .before .before .before .before .before .before .args in
-    let p = put-all (now (a .d)) (a .at) (a .order) 8 (a .c) (c .before .before .before .before .before .before .before .before .before .pre) in
-    c .before .before .put-four2 .ensures .0
-    ∙ ap (λ (x : List ℕ). setAll x (a .at) (contained (a .order) 8 (a .c)) 4 4) (c .before .before .before .before .before .before .put-four .ensures .0)
-    ∙ p
+    let w₂ = c .before .before in
+    let w₁ = w₂ .before .before .before .before in
+    let start = w₁ .before .before .before in
+    let a = start .args in
+    put-all (now (a .d)) _ (a .at) (a .order) 8 (a .c) (start .pre)
+    (set-on (now (a .d)) _ _ (a .at) (contained (a .order) 8 (a .c)) 0 4 4 (w₁ .put-four .ensures .0) (w₂ .put-four2 .ensures .0))
 
 pub put8-spec : {M : Type 1} → statement M
-put8-spec = tie.close (tie.spec put-four-requires put-four-requires-2 same-length returns)
+put8-spec = tie.close (tie.spec (λ c κs. search needs) (λ c κs. search needs) (λ c. search needs) returns)

@@ -1,10 +1,9 @@
 -- `storing::put_any` meets its contract. The invariant: the first i bytes are written. Assumes nothing.
-use Prim.Native.Nat.{ℕ, _+_, _-_, _*_, _^_, _≤_, _<_, zero-le}
-use mathlib.Core.Path.{_≡_, refl}
+use Prim.Native.Nat.{_-_, _≤_, zero-le}
+use mathlib.Core.Path.{_≡_, refl, _∙_}
 use native.Mathlib.Omega.{arith}
-use borrow.Author.Needs.{needs}
 use denote.Ref.{now}
-use lib.ListN.{length, length-set}
+use lib.ListN.{length}
 use lib.Seq.{paste, paste-zero}
 use Rattle.bits.specs.Container.{contained}
 use Rattle.bits.proofs.Digits.{put-step}
@@ -21,35 +20,20 @@ abbrev μ-loop : tie.MeasureT-loop
 loop-holds : tie.Need-loop-holds Inv-loop μ-loop
 loop-holds c = (zero-le, refl, paste-zero _ (c .before .args .at) (contained (c .before .args .order) (c .before .args .size) (c .before .args .c)))
 
-add-j : tie.Need-add-j Inv-loop μ-loop
-add-j c = omega arith
-
-index-of-requires : tie.Need-index-of-requires Inv-loop μ-loop
-index-of-requires c κs = search needs
-
-byte-of-requires : tie.Need-byte-of-requires Inv-loop μ-loop
-byte-of-requires c κs = omega arith
-
-slice-write-d : tie.Need-slice-write-d Inv-loop μ-loop
-slice-write-d c = omega arith
-
-add-i : tie.Need-add-i Inv-loop μ-loop
-add-i c = omega arith
-
-loop-less : tie.Need-loop-less Inv-loop μ-loop
-loop-less c = omega arith
+put-one-requires : tie.Need-put-one-requires Inv-loop μ-loop
+put-one-requires c κs = omega arith
 
 loop-again : tie.Need-loop-again Inv-loop μ-loop
 loop-again c =
-    let a = c .before .before .before .before .before .args in
-    let l = c .before .before .before .loop in (
+    let turn = c .before .before .before .before in
+    let l = turn .before .loop in
+    let start = turn .before .before .before in
+    let a = start .args in
+    let w = c .before .before .put-one in (
       omega arith,
-      simp length-set (l .inv .1),
-      put-step (now (a .d)) (l .d) (a .at) (a .size) (a .order) (a .c) (l .i) _ _ (c .before .before .before .before .before .pre .1) (c .before .before .loop-test .taken) (l .inv .2) (c .before .index-of .ensures .0) (c .byte-of .ensures),
+      w .ensures .1 ∙ l .inv .1,
+      put-step (now (a .d)) (l .d) _ (a .at) (a .size) (a .order) (a .c) (l .i) (start .pre .1) (turn .loop-test .taken) (l .inv .2) (w .ensures .0),
     )
-
-same-length : tie.Need-same-length Inv-loop μ-loop
-same-length c = omega arith
 
 returns : tie.Need-returns Inv-loop μ-loop
 returns c =
@@ -58,4 +42,4 @@ returns c =
 
 pub put-any-spec : {M : Type 1} → statement M
 put-any-spec =
-    tie.close (tie.spec Inv-loop μ-loop loop-holds add-j index-of-requires byte-of-requires slice-write-d add-i loop-less loop-again same-length returns)
+    tie.close (tie.spec Inv-loop μ-loop loop-holds put-one-requires (λ c. omega arith) (λ c. omega arith) loop-again (λ c. omega arith) returns)

@@ -1,8 +1,6 @@
 -- `storing::put_one` meets its contract. Assumes nothing.
-use Prim.Native.Nat.{ℕ, _+_, _*_, _^_, _≤_, _<_}
-use mathlib.Core.Path.{_≡_, ap, ap₂, sym, _∙_}
-use denote.Ref.{now}
-use lib.ListN.{length, set, getD, length-set}
+use mathlib.Core.Path.{_≡_, sym, _∙_}
+use lib.ListN.{getD, length-set}
 use Rattle.bits.specs.Container.{contained}
 use Rattle.bits.proofs.Digits.{byte-at}
 use borrow.Author.Needs.{needs}

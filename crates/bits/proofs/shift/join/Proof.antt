@@ -1,6 +1,5 @@
 -- `bits::shift::join` meets its contract. At the whole width only 0 stands above. Assumes nothing.
 use Prim.Native.Nat.{_+_, _*_, _<_, _^_}
-use mathlib.Core.Path.{_≡_}
 use native.Mathlib.Omega.{arith}
 use borrow.Author.Needs.{needs}
 use Rattle.bits.proofs.shift.join.Statement.{statement}

@@ -1,6 +1,6 @@
 -- `bits::shift::ones` meets its contract. Assumes nothing.
-use Prim.Native.Nat.{ℕ, _≤_, _^_}
-use mathlib.Core.Path.{_≡_, refl, ap}
+use Prim.Native.Nat.{ℕ, _-_}
+use mathlib.Core.Path.{ap}
 use borrow.Author.Needs.{needs}
 use lib.Pow.{pow-pos}
 use Rattle.bits.proofs.shift.ones.Statement.{statement}
@@ -16,7 +16,7 @@ sub-result : tie.Need-sub-result
 sub-result c = rw (c .pow2 .ensures) (pow-pos _)
 
 returns-2 : tie.Need-returns-2
-returns-2 c = cc
+returns-2 c = ap (λ (m : ℕ). m - 1) (c .pow2 .ensures)
 
 pub ones-spec : {M : Type 1} → statement M
 ones-spec = tie.close (tie.spec returns pow2-requires sub-result returns-2)

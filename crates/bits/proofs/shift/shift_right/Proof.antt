@@ -1,6 +1,5 @@
 -- `bits::shift::shift_right` meets its contract. At the whole width nothing is left. Assumes nothing.
-use Prim.Native.Nat.{ℕ, _/_, _^_}
-use mathlib.Core.Path.{_≡_, sym}
+use mathlib.Core.Path.{sym}
 use native.Mathlib.Nat.{div-eq-of-lt}
 use borrow.Author.Needs.{needs}
 use Rattle.bits.proofs.shift.shift_right.Statement.{statement}

@@ -1,7 +1,7 @@
 -- `number::sign::number_of` meets its contract. Each branch takes its case of `valued` (`Range`). Assumes nothing.
 use lib.IntN.{negsuc}
 use Prim.Native.Nat.{ℕ, _-_, _^_, _≤_, _<_}
-use mathlib.Core.Path.{_≡_, refl, ap, _∙_}
+use mathlib.Core.Path.{ap, _∙_}
 use native.Mathlib.Nat.{lt-of-lt-of-le}
 use native.Mathlib.Omega.{arith}
 use lib.Pow.{pow-pos, pow-mono}

@@ -2,7 +2,7 @@
 use mathlib.Core.Path.{sym, _∙_}
 use mir.Syntax.{w64}
 use mir.Facts.{toZ-ofZ}
-use mathlib.Core.Path.{_≡_, ap}
+use mathlib.Core.Path.{ap}
 use Rattle.number.specs.Parts.{meaning}
 use borrow.Author.Needs.{needs}
 use Rattle.number.proofs.sign.split.Statement.{statement}
