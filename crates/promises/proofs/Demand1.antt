@@ -38,11 +38,11 @@ use Rattle.records.specs.Records.{Readings, readings, recordAt, exceptions}
 use Rattle.records.specs.Matched.{MatchedLeaf}
 use Rattle.records.proofs.OneRecord.{none-raised, reading-at}
 use Rattle.records.proofs.ManyRecords.{none-in}
-use Rattle.convert.specs.Run.{Form, Run, Checked, require, withSheet, hasRoom, typeChecks, checksOf, onChecked, stopFrom, handled, answerFor, answer}
-use Rattle.convert.specs.Run.Form.{copying, inPlace}
-use Rattle.convert.specs.FirstException.{FirstException}
-use Rattle.convert.proofs.Checks.{stop-is}
-use Rattle.convert.proofs.Exceptions.{handled-quiet, handled-first, handled-number}
+use Rattle.runs.specs.Run.{Form, Run, Checked, require, withSheet, hasRoom, typeChecks, checksOf, onChecked, stopFrom, handled, answerFor, answer}
+use Rattle.runs.specs.Run.Form.{copying, inPlace}
+use Rattle.runs.specs.FirstException.{FirstException}
+use Rattle.runs.proofs.Checks.{stop-is}
+use Rattle.runs.proofs.Exceptions.{handled-quiet, handled-first, handled-number}
 use Rattle.promises.specs.Promise.{answerNumber, answerFields, becomes}
 use Rattle.promises.specs.Demand1.{HasPath, OfTypes, TooShort, Exception, Row, number, Given, order, First, onlyCount, onlyLine, onlyPlace, Fields, DoneFields, Demand1}
 use Rattle.promises.specs.Demand1.HasPath.{same-class, enums, arrays, compounds}

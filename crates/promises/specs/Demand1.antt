@@ -15,9 +15,9 @@ use Rattle.datatype.specs.Paths.Lookup.{found}
 use Rattle.sheet.specs.FirstFault.{FirstFault, Whole}
 use Rattle.records.specs.Records.{readings, exceptions}
 use Rattle.records.specs.Matched.{MatchedLeaf}
-use Rattle.convert.specs.Run.{Form, Run}
-use Rattle.convert.specs.Run.Form.{copying, inPlace}
-use Rattle.convert.specs.FirstException.{FirstException}
+use Rattle.runs.specs.Run.{Form, Run}
+use Rattle.runs.specs.Run.Form.{copying, inPlace}
+use Rattle.runs.specs.FirstException.{FirstException}
 use Rattle.promises.specs.Promise.{answerNumber, answerFields, becomes}
 
 -- ---- the words of the rows
