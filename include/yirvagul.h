@@ -1,4 +1,5 @@
-/* Yirvagul: converts records of instrument logs from one binary layout to another, in place or copying, lists a layout's leaves, and edits atomic layouts.
+/* Yirvagul: converts records of instrument logs from one binary layout to another, in place or copying, lists a layout's leaves, tells a record's size,
+ * and edits atomic layouts.
  *
  * Link with libcapi.a. Every call is proved against a definition of what it answers and of every byte that it leaves; it keeps nothing between calls,
  * allocates nothing and can be called from several threads at once, each with its own buffers.
@@ -23,8 +24,8 @@
 extern "C" {
 #endif
 
-/* The working table that the converting calls and the list read sheets into: lend at least this many 32-bit words. What it held does not matter. Its
- * first 8,192 words are zero after every call, except after HANDLING and TABLE, which leave it as it was; words beyond never change. */
+/* The working table that a call reads sheets into: lend at least this many 32-bit words. What it held does not matter. Its first 8,192 words are zero
+ * after every call, except after HANDLING and TABLE, which leave it as it was; words beyond never change. */
 #define YIRVAGUL_TABLE_WORDS 8192
 
 /* ---- what a call answers ---- */
@@ -37,8 +38,8 @@ enum {
     YIRVAGUL_HANDLING = 1,
     /* The table has fewer than YIRVAGUL_TABLE_WORDS words. Lend a longer one. */
     YIRVAGUL_TABLE = 2,
-    /* The source sheet (of the list, the only sheet) is faulty at `line`, counted from 1. Correct that line: a line is judged by itself and the lines
-     * before it. Line 0: the sheet is longer than 16,384 bytes. A last line without byte 10 is faulty at its own number. */
+    /* The source sheet, or the only one, is faulty at `line`, counted from 1. Correct that line: a line is judged by itself and the lines before it.
+     * Line 0: the sheet is longer than 16,384 bytes. A last line without byte 10 is faulty at its own number. */
     YIRVAGUL_SOURCE = 3,
     /* The destination sheet is faulty at `line`, likewise. */
     YIRVAGUL_DESTINATION = 4,
@@ -56,10 +57,10 @@ enum {
     YIRVAGUL_RANGE = 9
 };
 
-/* The answer's eight words. Each converting call and the list write all of them; a word that the number does not name is 0. */
+/* The answer's eight words. Each call that reads sheets writes all of them; a word that the number does not name is 0. */
 enum {
     YIRVAGUL_ANSWER_NUMBER = 0, /* what the call returned */
-    YIRVAGUL_ANSWER_COUNT = 1,  /* done: how many leaves raised an exception; of the list, its length in bytes */
+    YIRVAGUL_ANSWER_COUNT = 1,  /* done: how many leaves raised an exception; of the list, its length in bytes; of the record size, that size in bytes */
     YIRVAGUL_ANSWER_LINE = 2,   /* SOURCE, DESTINATION: the first faulty line */
     YIRVAGUL_ANSWER_RECORD = 3, /* STOP: the record, from 0 */
     YIRVAGUL_ANSWER_AT = 4,     /* STOP: the leaf's first byte in its destination record, from 0 */
@@ -113,6 +114,11 @@ uint32_t yirvagul_convert_in_place_plain(const uint8_t *source_sheet, size_t sou
  * length; bytes past it stay. Answers DONE, TABLE, SOURCE or ROOM. */
 uint32_t yirvagul_leaf_list(const uint8_t *sheet, size_t sheet_len, uint8_t *list, size_t list_len, uint32_t *table, size_t table_len,
                             uint64_t answer[8]);
+
+/* ---- the size of a record ---- */
+
+/* Gives the size in bytes, 1 to 4,096, of one record of the sheet's type: n records take n times as many. Answers DONE, TABLE or SOURCE. */
+uint32_t yirvagul_record_size(const uint8_t *sheet, size_t sheet_len, uint32_t *table, size_t table_len, uint64_t answer[8]);
 
 /* ---- setters ---- */
 
