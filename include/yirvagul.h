@@ -4,7 +4,8 @@
  * allocates nothing and can be called from several threads at once, each with its own buffers.
  *
  * What a caller owes, since C cannot say it in a type:
- *   - each pointer points at as many elements as the length beside it says, and is not NULL, also where that length is 0;
+ *   - each pointer points at as many elements as the length beside it says; a sheet, a buffer or a table of length 0 may be NULL;
+ *   - answer and layout point at eight words each, and are never NULL;
  *   - a buffer that is written (destination, buffer, list, table, answer, layout) overlaps no other argument.
  *
  * Sheets are text: lines ended by byte 10, fields parted by one tab, for example a compound of one 12-bit pressure:
@@ -22,6 +23,9 @@
 #ifdef __cplusplus
 extern "C" {
 #endif
+
+/* The version of this header, for #if: major * 10,000 + minor * 100 + patch. */
+#define YIRVAGUL_VERSION 100
 
 /* The working table that the converting calls and the list read sheets into: lend at least this many 32-bit words. What it held does not matter. Its
  * first 8,192 words are zero after every call, except after HANDLING and TABLE, which leave it as it was; words beyond never change. */
@@ -55,6 +59,26 @@ enum {
     /* A setter's argument or result is outside its rule, or the layout already was. Pass a valid layout and an argument within the rule. */
     YIRVAGUL_RANGE = 9
 };
+
+/* The name of such a number, as "DONE" or "SOURCE", for messages; "UNKNOWN" of a number that is none of them. C89 has no inline functions, and so not
+ * this one. */
+#if defined(__cplusplus) || (defined(__STDC_VERSION__) && __STDC_VERSION__ >= 199901L)
+static inline const char *yirvagul_name(uint32_t number) {
+    switch (number) {
+    case YIRVAGUL_DONE: return "DONE";
+    case YIRVAGUL_HANDLING: return "HANDLING";
+    case YIRVAGUL_TABLE: return "TABLE";
+    case YIRVAGUL_SOURCE: return "SOURCE";
+    case YIRVAGUL_DESTINATION: return "DESTINATION";
+    case YIRVAGUL_PATH: return "PATH";
+    case YIRVAGUL_COUNT: return "COUNT";
+    case YIRVAGUL_ROOM: return "ROOM";
+    case YIRVAGUL_STOP: return "STOP";
+    case YIRVAGUL_RANGE: return "RANGE";
+    default: return "UNKNOWN";
+    }
+}
+#endif
 
 /* The answer's eight words. Each converting call and the list write all of them; a word that the number does not name is 0. */
 enum {
