@@ -1,0 +1,418 @@
+//! One log, gone over in parts, by one thread or several.
+use super::input::Source;
+use super::{LogError, Progress, Totals};
+use crate::{Converter, Error, Handling, STACK_BYTES};
+use std::sync::mpsc::{self, Receiver, Sender};
+use std::{fmt, thread};
+
+/// The most records of one call.
+const PART_RECORDS: usize = 65_536;
+
+/// The most bytes of a part's source, or of what it is converted to.
+const PART_BYTES: usize = 2 << 20;
+
+/// A call's stack, and room for the rest that a thread does.
+const THREAD_STACK_BYTES: usize = STACK_BYTES + (1 << 19);
+
+/// The two layouts, which were found good, and the records of a part.
+#[derive(Clone, Debug)]
+pub(super) struct Plan<'a> {
+    source_sheet: &'a [u8],
+    destination_sheet: &'a [u8],
+    handling: Handling,
+    /// The size of a source record.
+    pub from: usize,
+    /// The size of a destination record.
+    pub to: usize,
+    records: usize,
+}
+
+impl<'a> Plan<'a> {
+    /// Has the library judge the sheets and the path between them, by converting no record.
+    pub fn new(
+        source_sheet: &'a [u8],
+        destination_sheet: &'a [u8],
+        handling: Handling,
+    ) -> Result<Self, Error> {
+        let mut c = Converter::new();
+        c.convert_copying(source_sheet, destination_sheet, 0, handling, &[], &mut [])?;
+        let from = c.record_size(source_sheet)?;
+        let to = c.record_size(destination_sheet)?;
+        Ok(Plan {
+            source_sheet,
+            destination_sheet,
+            handling,
+            from,
+            to,
+            records: (PART_BYTES / from.max(to)).min(PART_RECORDS),
+        })
+    }
+}
+
+/// The bits that no matched leaf fixes.
+enum Ground<'a> {
+    Zeros,
+    /// One record, for all.
+    One(Vec<u8>),
+    /// As many as the log has.
+    Each(Source<'a>),
+}
+
+impl<'a> Ground<'a> {
+    /// The records of an input, each of so many bytes.
+    fn new(background: Source<'a>, size: usize) -> Result<Self, LogError> {
+        let mut background = background.again()?;
+        if background.len() != Some(size as u64) {
+            return Ok(Ground::Each(background));
+        }
+        let mut one = vec![0; size];
+        background.fill(&mut one)?;
+        Ok(Ground::One(one))
+    }
+
+    /// Whether it serves so many records.
+    fn serves(&self, records: u64, size: u64) -> Result<(), LogError> {
+        let Ground::Each(background) = self else {
+            return Ok(());
+        };
+        let bytes = background.len().unwrap_or(0);
+        if records.checked_mul(size) == Some(bytes) {
+            return Ok(());
+        }
+        Err(LogError::Background {
+            bytes,
+            size,
+            records,
+        })
+    }
+
+    /// Puts the next records' background into a buffer.
+    fn fill(&mut self, records: &mut [u8]) -> Result<(), LogError> {
+        match self {
+            Ground::Zeros => records.fill(0),
+            Ground::One(one) => {
+                for record in records.chunks_exact_mut(one.len()) {
+                    record.copy_from_slice(one);
+                }
+            }
+            Ground::Each(source) => {
+                source.fill(records)?;
+            }
+        }
+        Ok(())
+    }
+}
+
+/// A part on its way.
+#[derive(Default)]
+struct Job {
+    first: u64,
+    records: u64,
+    source: Vec<u8>,
+    /// The background at first, then the converted records.
+    out: Vec<u8>,
+    exceptions: u64,
+    refused: Option<Error>,
+}
+
+impl Job {
+    fn convert(&mut self, c: &mut Converter, plan: &Plan) {
+        let done = c.convert_copying(
+            plan.source_sheet,
+            plan.destination_sheet,
+            self.records,
+            plan.handling,
+            &self.source,
+            &mut self.out,
+        );
+        match done {
+            Ok(exceptions) => self.exceptions = exceptions,
+            Err(mut error) => {
+                if let Error::Stop { record, .. } = &mut error {
+                    *record += self.first;
+                }
+                self.refused = Some(error);
+            }
+        }
+    }
+}
+
+/// The inputs of a run, and how far they are read.
+pub(super) struct Feed<'a> {
+    plan: Plan<'a>,
+    log: Source<'a>,
+    ground: Ground<'a>,
+    records: u64,
+    bytes: u64,
+}
+
+impl<'a> Feed<'a> {
+    /// Compares the lengths of the inputs where they are known, which they are if the log is gone over twice.
+    pub fn new(
+        plan: Plan<'a>,
+        mut log: Source<'a>,
+        background: Option<Source<'a>>,
+        is_twice: bool,
+    ) -> Result<Self, LogError> {
+        let ground = match background {
+            Some(background) => Ground::new(background, plan.to)?,
+            None => Ground::Zeros,
+        };
+        if is_twice || matches!(ground, Ground::Each(_)) {
+            log = log.again()?;
+        }
+        if let Some(bytes) = log.len() {
+            let size = plan.from as u64;
+            if bytes % size != 0 {
+                return Err(LogError::Ragged { bytes, size });
+            }
+            ground.serves(bytes / size, plan.to as u64)?;
+        }
+        Ok(Feed {
+            plan,
+            log,
+            ground,
+            records: 0,
+            bytes: 0,
+        })
+    }
+
+    /// The records of the log, where its length is known.
+    pub fn total(&self) -> Option<u64> {
+        Some(self.log.len()? / self.plan.from as u64)
+    }
+
+    /// The bytes that the log is converted to, where its length is known.
+    pub fn output_bytes(&self) -> Option<u64> {
+        Some(self.total()?.saturating_mul(self.plan.to as u64))
+    }
+
+    fn rewind(&mut self) -> Result<(), LogError> {
+        (self.records, self.bytes) = (0, 0);
+        if let Ground::Each(background) = &mut self.ground {
+            background.rewind()?;
+        }
+        self.log.rewind()
+    }
+
+    /// Reads the next part; false where there is none.
+    fn next(&mut self, job: &mut Job) -> Result<bool, LogError> {
+        let Plan {
+            from, to, records, ..
+        } = self.plan;
+        job.source.resize(records * from, 0);
+        let n = self.log.fill(&mut job.source)?;
+        self.bytes += n as u64;
+        if n % from != 0 {
+            return Err(LogError::Ragged {
+                bytes: self.bytes,
+                size: from as u64,
+            });
+        }
+        job.source.truncate(n);
+        job.first = self.records;
+        job.records = (n / from) as u64;
+        job.out.resize(n / from * to, 0);
+        self.ground.fill(&mut job.out)?;
+        self.records += job.records;
+        Ok(n > 0)
+    }
+}
+
+/// A run over the parts of a log.
+pub(super) struct Run<'a> {
+    pub feed: Feed<'a>,
+    pub jobs: usize,
+    pub progress: &'a mut dyn FnMut(Progress),
+}
+
+impl Run<'_> {
+    /// Goes over all parts, and back to the first.
+    pub fn check(&mut self) -> Result<(), LogError> {
+        self.pass(true, &mut |_| Ok(()))?;
+        self.feed.rewind()
+    }
+
+    /// Hands each converted part on, in order.
+    pub fn convert(
+        &mut self,
+        put: &mut dyn FnMut(&[u8]) -> Result<(), LogError>,
+    ) -> Result<Totals, LogError> {
+        self.pass(false, put)
+    }
+
+    fn pass(
+        &mut self,
+        checking: bool,
+        put: &mut dyn FnMut(&[u8]) -> Result<(), LogError>,
+    ) -> Result<Totals, LogError> {
+        let total = self.feed.total();
+        let mut totals = Totals::default();
+        let mut finish = |job: &mut Job| {
+            if let Some(error) = job.refused.take() {
+                return Err(error.into());
+            }
+            put(&job.out)?;
+            totals.records += job.records;
+            totals.exceptions += job.exceptions;
+            (self.progress)(Progress {
+                records: totals.records,
+                total,
+                checking,
+            });
+            Ok(())
+        };
+        // no more threads than parts
+        let parts = total.map_or(u64::MAX, |n| n.div_ceil(self.feed.plan.records as u64));
+        match self.jobs.min(usize::try_from(parts).unwrap_or(usize::MAX)) {
+            0 | 1 => alone(&mut self.feed, &mut finish)?,
+            jobs => together(&mut self.feed, jobs, &mut finish)?,
+        }
+        Ok(totals)
+    }
+}
+
+type Finish<'f> = dyn FnMut(&mut Job) -> Result<(), LogError> + 'f;
+
+fn alone(feed: &mut Feed, finish: &mut Finish) -> Result<(), LogError> {
+    let mut c = Converter::new();
+    let mut job = Job::default();
+    while feed.next(&mut job)? {
+        job.convert(&mut c, &feed.plan);
+        finish(&mut job)?;
+    }
+    Ok(())
+}
+
+/// The same by several threads. Parts go to them in turn and come back in that order, so the first refusal is the log's first.
+fn together(feed: &mut Feed, jobs: usize, finish: &mut Finish) -> Result<(), LogError> {
+    let plan = feed.plan.clone();
+    thread::scope(|scope| {
+        let workers = (0..jobs).map(|_| worker(scope, &plan));
+        let workers = workers.collect::<Result<Vec<_>, _>>()?;
+        let (mut sent, mut taken, mut spare) = (0, 0, Vec::new());
+        let mut fed = Ok(true);
+        loop {
+            while matches!(fed, Ok(true)) && sent < taken + 2 * jobs {
+                let mut job = spare.pop().unwrap_or_default();
+                fed = feed.next(&mut job);
+                if let Ok(true) = fed {
+                    let (to, _) = &workers[sent % jobs];
+                    to.send(job).expect("a worker takes parts to the end");
+                    sent += 1;
+                }
+            }
+            // a failed read comes after the parts that were read before it
+            if taken == sent {
+                return fed.map(|_| ());
+            }
+            let (_, from) = &workers[taken % jobs];
+            let mut job = from.recv().expect("a worker gives each part back");
+            taken += 1;
+            finish(&mut job)?;
+            spare.push(job);
+        }
+    })
+}
+
+/// A thread that converts the parts that it is sent, until the sender is dropped.
+fn worker<'s>(
+    scope: &'s thread::Scope<'s, '_>,
+    plan: &'s Plan,
+) -> Result<(Sender<Job>, Receiver<Job>), LogError> {
+    let (to, parts) = mpsc::channel::<Job>();
+    let (done, from) = mpsc::channel();
+    let work = move || {
+        let mut c = Converter::new();
+        for mut job in parts {
+            job.convert(&mut c, plan);
+            if done.send(job).is_err() {
+                break;
+            }
+        }
+    };
+    thread::Builder::new()
+        .stack_size(THREAD_STACK_BYTES)
+        .spawn_scoped(scope, work)
+        .map_err(|error| LogError::io("start a thread", error))?;
+    Ok((to, from))
+}
+
+/// The converted parts of a log as they come.
+///
+/// A part is handed out before later ones are looked at, so a refusal can come after parts that were good; nothing comes after it.
+pub struct Parts<'a> {
+    feed: Feed<'a>,
+    converter: Converter,
+    is_over: bool,
+}
+
+/// One part of a converted log.
+#[derive(Clone, Debug, PartialEq, Eq)]
+#[non_exhaustive]
+pub struct Part {
+    /// The log's record that it starts with, from 0.
+    pub first: u64,
+    /// How many records it has, 1 to 65,536.
+    pub records: u64,
+    /// The leaves of these records that raised an exception.
+    pub exceptions: u64,
+    /// The converted records.
+    pub bytes: Vec<u8>,
+}
+
+impl<'a> Parts<'a> {
+    pub(super) fn new(feed: Feed<'a>) -> Self {
+        Parts {
+            feed,
+            converter: Converter::new(),
+            is_over: false,
+        }
+    }
+
+    /// The records of the whole log, where its length is known.
+    pub fn records(&self) -> Option<u64> {
+        self.feed.total()
+    }
+
+    fn part(&mut self) -> Result<Option<Part>, LogError> {
+        let mut job = Job::default();
+        if !self.feed.next(&mut job)? {
+            return Ok(None);
+        }
+        job.convert(&mut self.converter, &self.feed.plan);
+        match job.refused {
+            Some(error) => Err(error.into()),
+            None => Ok(Some(Part {
+                first: job.first,
+                records: job.records,
+                exceptions: job.exceptions,
+                bytes: job.out,
+            })),
+        }
+    }
+}
+
+impl Iterator for Parts<'_> {
+    type Item = Result<Part, LogError>;
+
+    fn next(&mut self) -> Option<Self::Item> {
+        if self.is_over {
+            return None;
+        }
+        let part = self.part().transpose();
+        self.is_over = !matches!(part, Some(Ok(_)));
+        part
+    }
+}
+
+impl std::iter::FusedIterator for Parts<'_> {}
+
+impl fmt::Debug for Parts<'_> {
+    fn fmt(&self, f: &mut fmt::Formatter) -> fmt::Result {
+        f.debug_struct("Parts")
+            .field("done", &self.feed.records)
+            .field("records", &self.records())
+            .finish_non_exhaustive()
+    }
+}
