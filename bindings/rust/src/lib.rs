@@ -37,8 +37,8 @@ pub use error::{Buffer, Error, Kind, Short};
 use explain::Call;
 pub use layout::{Class, Layout, Order, Pad, Sign};
 pub use log::{
-    convert_log, log_parts, Input, LogConverter, LogError, Output, Part, Parts, Progress, ReadSeek,
-    Totals,
+    convert_log, convert_log_parts, Input, LogConverter, LogError, Output, Part, Parts, Progress,
+    ReadSeek, Totals,
 };
 use raw::Sheets;
 

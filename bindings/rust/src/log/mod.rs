@@ -25,18 +25,18 @@ use std::{fmt, io};
 /// assert_eq!(out[199_998..], [0, 7]);
 /// # Ok::<(), yirvagul::LogError>(())
 /// ```
-pub fn convert_log<'a>(
+pub fn convert_log<'i, 'o>(
     source_sheet: &[u8],
     destination_sheet: &[u8],
     handling: Handling,
-    log: impl Into<Input<'a>>,
-    output: impl Into<Output<'a>>,
+    log: impl Into<Input<'i>>,
+    output: impl Into<Output<'o>>,
 ) -> Result<Totals, LogError> {
     LogConverter::new(source_sheet, destination_sheet, handling).convert(log, output)
 }
 
 /// The parts of a converted log as they come: [`LogConverter::parts`] without a background. Parts are handed out before later ones are looked at.
-pub fn log_parts<'a>(
+pub fn convert_log_parts<'a>(
     source_sheet: &'a [u8],
     destination_sheet: &'a [u8],
     handling: Handling,
@@ -104,7 +104,7 @@ impl<'a> LogConverter<'a> {
     }
 
     /// The bits that no matched leaf fixes come from here: one destination record, which serves all, or exactly as many as the log has. Without it they are
-    /// zero, also where the output is a buffer that holds something.
+    /// zero; in a buffer they are its own, as of [`convert_copying`](crate::convert_copying).
     #[must_use]
     pub fn background(mut self, background: impl Into<Input<'a>>) -> Self {
         self.background = Some(background.into());
@@ -126,10 +126,10 @@ impl<'a> LogConverter<'a> {
     }
 
     /// Converts a log.
-    pub fn convert<'b>(
+    pub fn convert<'i, 'o>(
         mut self,
-        log: impl Into<Input<'b>>,
-        output: impl Into<Output<'b>>,
+        log: impl Into<Input<'i>>,
+        output: impl Into<Output<'o>>,
     ) -> Result<Totals, LogError> {
         let plan = self.plan()?;
         let log = Source::open(log.into(), "the log")?;

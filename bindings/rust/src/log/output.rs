@@ -110,14 +110,14 @@ fn look_at<'a>(path: &Path) -> io::Result<Target<'a>> {
     })
 }
 
-impl Target<'_> {
+impl<'a> Target<'a> {
     /// Whether all parts are gone over before the first byte is written.
     pub fn is_checked_first(&self) -> bool {
         !matches!(self, Target::Replaced(_))
     }
 
     /// Takes the whole output of a run.
-    pub fn take(self, mut run: Run) -> Result<Totals, LogError> {
+    pub fn take(self, mut run: Run<'a>) -> Result<Totals, LogError> {
         match self {
             Target::Replaced(replaced) => replaced.take(run),
             Target::Buffer(bytes) => {
@@ -131,13 +131,8 @@ impl Target<'_> {
                     return Err(Error::Room { short: Some(short) }.into());
                 }
                 run.check()?;
-                let mut left = bytes;
-                run.convert(&mut |part| {
-                    let (now, later) = std::mem::take(&mut left).split_at_mut(part.len());
-                    now.copy_from_slice(part);
-                    left = later;
-                    Ok(())
-                })
+                run.feed.lent = Some(bytes);
+                run.convert(&mut |_| Ok(()))
             }
             Target::Written(mut to, name) => {
                 let failed = |error| LogError::io(format!("write {name}"), error);

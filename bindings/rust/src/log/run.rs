@@ -51,7 +51,8 @@ impl<'a> Plan<'a> {
 
 /// The bits that no matched leaf fixes.
 enum Ground<'a> {
-    Zeros,
+    /// Zeros, or what a lent buffer holds.
+    Unnamed,
     /// One record, for all.
     One(Vec<u8>),
     /// As many as the log has.
@@ -89,7 +90,7 @@ impl<'a> Ground<'a> {
     /// Puts the next records' background into a buffer.
     fn fill(&mut self, records: &mut [u8]) -> Result<(), LogError> {
         match self {
-            Ground::Zeros => records.fill(0),
+            Ground::Unnamed => {}
             Ground::One(one) => {
                 for record in records.chunks_exact_mut(one.len()) {
                     record.copy_from_slice(one);
@@ -103,19 +104,46 @@ impl<'a> Ground<'a> {
     }
 }
 
+/// Where a part's records are converted: the background at first.
+enum Out<'a> {
+    Own(Vec<u8>),
+    Lent(&'a mut [u8]),
+}
+
+impl Default for Out<'_> {
+    fn default() -> Self {
+        Out::Own(Vec::new())
+    }
+}
+
+impl Out<'_> {
+    fn bytes(&mut self) -> &mut [u8] {
+        match self {
+            Out::Own(own) => own,
+            Out::Lent(lent) => lent,
+        }
+    }
+
+    fn into_vec(self) -> Vec<u8> {
+        match self {
+            Out::Own(own) => own,
+            Out::Lent(lent) => lent.to_vec(),
+        }
+    }
+}
+
 /// A part on its way.
 #[derive(Default)]
-struct Job {
+struct Job<'a> {
     first: u64,
     records: u64,
     source: Vec<u8>,
-    /// The background at first, then the converted records.
-    out: Vec<u8>,
+    out: Out<'a>,
     exceptions: u64,
     refused: Option<Error>,
 }
 
-impl Job {
+impl Job<'_> {
     fn convert(&mut self, c: &mut Converter, plan: &Plan) {
         let done = c.convert_copying(
             plan.source_sheet,
@@ -123,7 +151,7 @@ impl Job {
             self.records,
             plan.handling,
             &self.source,
-            &mut self.out,
+            self.out.bytes(),
         );
         match done {
             Ok(exceptions) => self.exceptions = exceptions,
@@ -142,6 +170,8 @@ pub(super) struct Feed<'a> {
     plan: Plan<'a>,
     log: Source<'a>,
     ground: Ground<'a>,
+    /// What is left of a buffer that the parts are converted in.
+    pub lent: Option<&'a mut [u8]>,
     records: u64,
     bytes: u64,
 }
@@ -156,7 +186,7 @@ impl<'a> Feed<'a> {
     ) -> Result<Self, LogError> {
         let ground = match background {
             Some(background) => Ground::new(background, plan.to)?,
-            None => Ground::Zeros,
+            None => Ground::Unnamed,
         };
         if is_twice || matches!(ground, Ground::Each(_)) {
             log = log.again()?;
@@ -172,6 +202,7 @@ impl<'a> Feed<'a> {
             plan,
             log,
             ground,
+            lent: None,
             records: 0,
             bytes: 0,
         })
@@ -196,7 +227,7 @@ impl<'a> Feed<'a> {
     }
 
     /// Reads the next part; false where there is none.
-    fn next(&mut self, job: &mut Job) -> Result<bool, LogError> {
+    fn next(&mut self, job: &mut Job<'a>) -> Result<bool, LogError> {
         let Plan {
             from, to, records, ..
         } = self.plan;
@@ -212,8 +243,21 @@ impl<'a> Feed<'a> {
         job.source.truncate(n);
         job.first = self.records;
         job.records = (n / from) as u64;
-        job.out.resize(n / from * to, 0);
-        self.ground.fill(&mut job.out)?;
+        let needs = n / from * to;
+        match self.lent.take() {
+            Some(lent) => {
+                let (now, later) = lent.split_at_mut(needs);
+                job.out = Out::Lent(now);
+                self.lent = Some(later);
+            }
+            None => {
+                let mut own = std::mem::take(&mut job.out).into_vec();
+                own.clear();
+                own.resize(needs, 0);
+                job.out = Out::Own(own);
+            }
+        }
+        self.ground.fill(job.out.bytes())?;
         self.records += job.records;
         Ok(n > 0)
     }
@@ -226,7 +270,7 @@ pub(super) struct Run<'a> {
     pub progress: &'a mut dyn FnMut(Progress),
 }
 
-impl Run<'_> {
+impl<'a> Run<'a> {
     /// Goes over all parts, and back to the first.
     pub fn check(&mut self) -> Result<(), LogError> {
         self.pass(true, &mut |_| Ok(()))?;
@@ -252,7 +296,7 @@ impl Run<'_> {
             if let Some(error) = job.refused.take() {
                 return Err(error.into());
             }
-            put(&job.out)?;
+            put(job.out.bytes())?;
             totals.records += job.records;
             totals.exceptions += job.exceptions;
             (self.progress)(Progress {
@@ -285,7 +329,7 @@ fn alone(feed: &mut Feed, finish: &mut Finish) -> Result<(), LogError> {
 }
 
 /// The same by several threads. Parts go to them in turn and come back in that order, so the first refusal is the log's first.
-fn together(feed: &mut Feed, jobs: usize, finish: &mut Finish) -> Result<(), LogError> {
+fn together<'a>(feed: &mut Feed<'a>, jobs: usize, finish: &mut Finish) -> Result<(), LogError> {
     let plan = feed.plan.clone();
     thread::scope(|scope| {
         let workers = (0..jobs).map(|_| worker(scope, &plan));
@@ -307,7 +351,7 @@ fn together(feed: &mut Feed, jobs: usize, finish: &mut Finish) -> Result<(), Log
                 return fed.map(|_| ());
             }
             let (_, from) = &workers[taken % jobs];
-            let mut job = from.recv().expect("a worker gives each part back");
+            let mut job: Job = from.recv().expect("a worker gives each part back");
             taken += 1;
             finish(&mut job)?;
             spare.push(job);
@@ -316,10 +360,10 @@ fn together(feed: &mut Feed, jobs: usize, finish: &mut Finish) -> Result<(), Log
 }
 
 /// A thread that converts the parts that it is sent, until the sender is dropped.
-fn worker<'s>(
+fn worker<'s, 'a: 's>(
     scope: &'s thread::Scope<'s, '_>,
     plan: &'s Plan,
-) -> Result<(Sender<Job>, Receiver<Job>), LogError> {
+) -> Result<(Sender<Job<'a>>, Receiver<Job<'a>>), LogError> {
     let (to, parts) = mpsc::channel::<Job>();
     let (done, from) = mpsc::channel();
     let work = move || {
@@ -358,7 +402,7 @@ pub struct Part {
     /// The leaves of these records that raised an exception.
     pub exceptions: u64,
     /// The converted records.
-    pub bytes: Vec<u8>,
+    pub data: Vec<u8>,
 }
 
 impl<'a> Parts<'a> {
@@ -387,7 +431,7 @@ impl<'a> Parts<'a> {
                 first: job.first,
                 records: job.records,
                 exceptions: job.exceptions,
-                bytes: job.out,
+                data: job.out.into_vec(),
             })),
         }
     }
