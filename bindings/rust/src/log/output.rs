@@ -70,6 +70,8 @@ pub(super) enum Target<'a> {
 
 /// A plain file that is to be there anew, with the permissions that it has.
 pub(super) struct Replaced {
+    /// For messages.
+    name: String,
     path: PathBuf,
     permissions: Option<fs::Permissions>,
 }
@@ -81,16 +83,18 @@ impl<'a> Output<'a> {
             Output::File(file) => Target::Written(Box::new(file), "the output".into()),
             Output::Path(path) => {
                 let name = path.display().to_string();
-                look_at(path).map_err(|error| LogError::io(format!("write {name}"), error))?
+                look_at(path, &name)
+                    .map_err(|error| LogError::io(format!("write {name}"), error))?
             }
         })
     }
 }
 
-fn look_at<'a>(path: &Path) -> io::Result<Target<'a>> {
+fn look_at<'a>(path: &Path, name: &str) -> io::Result<Target<'a>> {
     let meta = match fs::metadata(path) {
         Err(e) if e.kind() == ErrorKind::NotFound => {
             return Ok(Target::Replaced(Replaced {
+                name: name.into(),
                 path: path.into(),
                 permissions: None,
             }))
@@ -101,12 +105,13 @@ fn look_at<'a>(path: &Path) -> io::Result<Target<'a>> {
     let file = OpenOptions::new().write(true).open(path)?;
     Ok(if meta.is_file() {
         Target::Replaced(Replaced {
+            name: name.into(),
             // behind a link, the file that it leads to
             path: path.canonicalize()?,
             permissions: Some(meta.permissions()),
         })
     } else {
-        Target::Written(Box::new(file), path.display().to_string())
+        Target::Written(Box::new(file), name.into())
     })
 }
 
@@ -147,7 +152,7 @@ impl<'a> Target<'a> {
 
 impl Replaced {
     fn take(self, mut run: Run) -> Result<Totals, LogError> {
-        let failed = |error| LogError::io(format!("write {}", self.path.display()), error);
+        let failed = |error| LogError::io(format!("write {}", self.name), error);
         let mut beside = Beside::new(&self.path).map_err(failed)?;
         let totals = run.convert(&mut |part| beside.file.write_all(part).map_err(failed))?;
         beside

@@ -2,6 +2,7 @@
 use super::input::Source;
 use super::{LogError, Progress, Totals};
 use crate::{Converter, Error, Handling, STACK_BYTES};
+use std::io::ErrorKind;
 use std::sync::mpsc::{self, Receiver, Sender};
 use std::{fmt, thread};
 
@@ -231,7 +232,7 @@ impl<'a> Feed<'a> {
         let Plan {
             from, to, records, ..
         } = self.plan;
-        job.source.resize(records * from, 0);
+        sized(&mut job.source, records * from)?;
         let n = self.log.fill(&mut job.source)?;
         self.bytes += n as u64;
         if n % from != 0 {
@@ -253,7 +254,7 @@ impl<'a> Feed<'a> {
             None => {
                 let mut own = std::mem::take(&mut job.out).into_vec();
                 own.clear();
-                own.resize(needs, 0);
+                sized(&mut own, needs)?;
                 job.out = Out::Own(own);
             }
         }
@@ -261,6 +262,15 @@ impl<'a> Feed<'a> {
         self.records += job.records;
         Ok(n > 0)
     }
+}
+
+/// Makes a buffer so long, with zeros behind what it has.
+fn sized(buffer: &mut Vec<u8>, len: usize) -> Result<(), LogError> {
+    let more = len.saturating_sub(buffer.len());
+    let room = buffer.try_reserve_exact(more);
+    room.map_err(|_| LogError::io("hold a part of the log", ErrorKind::OutOfMemory.into()))?;
+    buffer.resize(len, 0);
+    Ok(())
 }
 
 /// A run over the parts of a log.
