@@ -23,7 +23,7 @@ usage: yirvagul convert FROM.sheet TO.sheet IN OUT [--clamp | --stop] [--backgro
   --clamp            write the nearest number that fits, and count it as an exception
   --background FILE  the bits that the log says nothing of: one record of TO.sheet, which then
                      serves all, or as many as the log has; without it they are zero
-  --jobs N           convert on N threads, 1 to 256; the output is the same
+  --jobs N           convert on N threads, 1 to 64; the output is the same
 
 - is standard input or output. The output goes to a file beside OUT, which is renamed when it is
 complete: a refusal or a full disk leaves OUT as it was. (A run that is killed leaves the other
@@ -89,9 +89,9 @@ fn jobs(value: Option<&OsStr>) -> Result<usize, Failure> {
         return Ok(1);
     };
     let jobs = value.to_str().and_then(|value| value.parse().ok());
-    jobs.filter(|jobs| (1..=256).contains(jobs)).ok_or_else(|| {
+    jobs.filter(|jobs| (1..=64).contains(jobs)).ok_or_else(|| {
         let said = value.to_string_lossy();
-        Failure::usage(format!("--jobs is {said}: give a number from 1 to 256"))
+        Failure::usage(format!("--jobs is {said}: give a number from 1 to 64"))
     })
 }
 

@@ -128,6 +128,9 @@ fn standard_input_and_output() {
         .shell("$y convert rig.sheet customer.sheet <(cat rig.log) out3.log")
         .said(0, closing);
     assert_eq!(folder.read("out3.log"), wanted);
+    folder
+        .shell("$y convert rig.sheet customer.sheet rig.log /dev/stdout | cat")
+        .wrote(&wanted, closing);
     // behind what is there already
     folder
         .shell("(printf head; $y convert rig.sheet customer.sheet rig.log -) >out4.log")
@@ -340,15 +343,15 @@ fn usage() {
         ),
         (
             "rig.sheet customer.sheet rig.log out --jobs 0",
-            "--jobs is 0: give a number from 1 to 256",
+            "--jobs is 0: give a number from 1 to 64",
         ),
         (
-            "rig.sheet customer.sheet rig.log out --jobs 257",
-            "--jobs is 257: give a number from 1 to 256",
+            "rig.sheet customer.sheet rig.log out --jobs 65",
+            "--jobs is 65: give a number from 1 to 64",
         ),
         (
             "rig.sheet customer.sheet rig.log out --jobs=x",
-            "--jobs is x: give a number from 1 to 256",
+            "--jobs is x: give a number from 1 to 64",
         ),
         (
             "rig.sheet customer.sheet rig.log out --jobs 2 --jobs 3",

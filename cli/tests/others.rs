@@ -2,6 +2,8 @@
 mod common;
 
 use common::{Folder, RIG};
+use std::fs;
+use std::path::Path;
 
 #[test]
 fn the_list_of_document_01() {
@@ -18,7 +20,7 @@ fn a_refused_list() {
     assert_eq!((ran.status, &ran.out[..]), (3, &b"refused\t3\t2\n"[..]));
     assert_eq!(
         ran.error,
-        "yirvagul: standard input: SOURCE (3): line 2 of the source sheet is faulty, `enum\\t1`: there is no type 1 yet: the only type before this line is 0\n"
+        "yirvagul: standard input: SOURCE (3): line 2 of the sheet is faulty, `enum\\t1`: there is no type 1 yet: the only type before this line is 0\n"
     );
     folder.write("empty", b"");
     let ran = folder.run("list empty");
@@ -32,6 +34,28 @@ fn a_refused_list() {
     }
 }
 
+/// On the sheets of the proved program `lists`, the output is that program's.
+#[test]
+fn the_lists_of_the_proved_program() {
+    let lists = Path::new(env!("CARGO_MANIFEST_DIR")).join("../crates/lists");
+    let wanted = fs::read_to_string(lists.join("stdout")).unwrap();
+    let folder = Folder::new("lists");
+    for sheet in fs::read_dir(lists.join("data")).unwrap() {
+        let sheet = sheet.unwrap();
+        let name = sheet.file_name().into_string().unwrap();
+        let (_, wanted) = wanted.split_once(&format!("{name}:\n")).expect(&name);
+        let ran = folder.run_with("list -", &fs::read(sheet.path()).unwrap());
+        let out = String::from_utf8(ran.out).unwrap();
+        assert!(!out.is_empty() && wanted.starts_with(&out), "{name}");
+        let is_refused = wanted.starts_with("refused");
+        assert_eq!(ran.status, if is_refused { 3 } else { 0 }, "{name}");
+        assert_eq!(
+            out.lines().count() == 1 && ran.error.is_empty(),
+            name == "no_leaves"
+        );
+    }
+}
+
 #[test]
 fn sizes() {
     let folder = Folder::new("size");
@@ -39,7 +63,7 @@ fn sizes() {
     folder.run("size customer.sheet").wrote(b"7\n", "");
     folder
         .run_with("size -", b"comp\t0\n")
-        .said(3, "yirvagul: standard input: SOURCE (3): line 1 of the source sheet is faulty, `comp\\t0`: the size is 0: a compound has 1 to 4,096 bytes\n");
+        .said(3, "yirvagul: standard input: SOURCE (3): line 1 of the sheet is faulty, `comp\\t0`: the size is 0: a compound has 1 to 4,096 bytes\n");
 }
 
 #[test]

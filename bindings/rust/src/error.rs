@@ -44,7 +44,7 @@ impl fmt::Display for Kind {
             Kind::Above => f.write_str("the number is above the destination's range: widen the destination, or clamp"),
             Kind::Below => f.write_str("the number is below the destination's range: widen the destination, or clamp"),
             Kind::NoSymbol => f.write_str("the number has no symbol, or its symbol is not in the destination: complete the enums, or clamp"),
-            Kind::Unknown(number) => write!(f, "the number does not fit, for a reason that this version does not know (kind {number}): clamp, or take the version of the library"),
+            Kind::Unknown(number) => write!(f, "the number does not fit, for a reason that this version does not know (kind {number}): clamp, or use a newer wrapper"),
         }
     }
 }
@@ -100,7 +100,7 @@ pub struct Short {
 /// assert_eq!((error.number(), error.name()), (3, "SOURCE"));
 /// assert_eq!(
 ///     error.to_string(),
-///     "SOURCE (3): line 1 of the source sheet is faulty, `int\\t2\\tBE\\t4\\t13\\tzero\\tzero\\tunsigned`: \
+///     "SOURCE (3): line 1 of the sheet is faulty, `int\\t2\\tBE\\t4\\t13\\tzero\\tzero\\tunsigned`: \
 ///      offset 4 and precision 13 make 17 bits, above the 16 of 2 bytes: make the size larger, or one of them smaller"
 /// );
 /// ```
@@ -120,6 +120,8 @@ pub enum Error {
         text: Option<String>,
         /// The rule that it breaks, and what to do.
         rule: Option<String>,
+        /// Whether the call had no other sheet.
+        only: bool,
     },
     /// The destination sheet is faulty.
     #[non_exhaustive]
@@ -212,7 +214,12 @@ impl Error {
         match number {
             1 => Error::Handling,
             2 => Error::Table,
-            3 => Error::Source { line, text, rule },
+            3 => Error::Source {
+                line,
+                text,
+                rule,
+                only: false,
+            },
             4 => Error::Destination { line, text, rule },
             5 => Error::Path { member, why },
             6 => Error::Count,
@@ -240,8 +247,8 @@ fn faulty(
     rule: &Option<String>,
 ) -> fmt::Result {
     match line {
-        0 => write!(f, "the {sheet} sheet is faulty")?,
-        _ => write!(f, "line {line} of the {sheet} sheet is faulty")?,
+        0 => write!(f, "the {sheet} is faulty")?,
+        _ => write!(f, "line {line} of the {sheet} is faulty")?,
     }
     if let Some(text) = text {
         write!(f, ", `{text}`")?;
@@ -267,8 +274,9 @@ impl fmt::Display for Error {
         match self {
             Error::Handling => f.write_str("handling is neither 0 (clamp) nor 1 (stop): pass one of them"),
             Error::Table => f.write_str("the working table is too short: lend at least 8,192 words"),
-            Error::Source { line, text, rule } => faulty(f, "source", *line, text, rule),
-            Error::Destination { line, text, rule } => faulty(f, "destination", *line, text, rule),
+            Error::Source { line, text, rule, only: true } => faulty(f, "sheet", *line, text, rule),
+            Error::Source { line, text, rule, .. } => faulty(f, "source sheet", *line, text, rule),
+            Error::Destination { line, text, rule } => faulty(f, "destination sheet", *line, text, rule),
             Error::Path { member: Some(member), why: Some(why) } => write!(f, "no path from the source type to the destination type: {} {why}", named(member)),
             Error::Path { .. } => f.write_str("no path from the source type to the destination type: give members of one name the same class, and arrays as many elements"),
             Error::Count => f.write_str("more than 65,536 records in one call: convert them in parts, as convert_log does"),
@@ -279,7 +287,7 @@ impl fmt::Display for Error {
                 Some(member) => write!(f, "record {record}, `{member}` at byte {at}: {kind}"),
             },
             Error::Range => f.write_str("the argument or the layout breaks the rules of a layout: size 1 to 8 bytes, precision 1 to 64 bits, offset + precision within the size, no sign on bits"),
-            Error::Unknown { answer, .. } => write!(f, "a refusal that this version does not know, with the words {answer:?}: take the version of the library"),
+            Error::Unknown { answer, .. } => write!(f, "a refusal that this version does not know, with the words {answer:?}: use a newer wrapper"),
         }
     }
 }

@@ -38,8 +38,14 @@ pub(crate) fn outcome(answer: Answer, call: &Call, table: &mut [u32]) -> Result<
     }
     let mut error = Error::from_answer(answer);
     match &mut error {
-        Error::Source { line, text, rule } => {
+        Error::Source {
+            line,
+            text,
+            rule,
+            only,
+        } => {
             (*text, *rule) = fault(call.source_sheet(), *line);
+            *only = call.destination_sheet().is_none();
         }
         Error::Destination { line, text, rule } => {
             if let Some(sheet) = call.destination_sheet() {

@@ -547,6 +547,10 @@ mod unix {
             0o640
         );
         assert_eq!(names(&folder), ["link", "out"]);
+        fs::remove_file(&path).unwrap();
+        totals(convert_log(FROM, TO, Handling::Stop, &[3, 4], &link));
+        assert_eq!(fs::read(&path).unwrap(), [4, 3, 0]);
+        assert_eq!(fs::read_link(&link).unwrap(), Path::new("out"));
     }
 
     #[test]

@@ -45,7 +45,8 @@ pub fn convert_log_parts<'a>(
     LogConverter::new(source_sheet, destination_sheet, handling).parts(log)
 }
 
-/// Converts one log of any length, in parts. It holds at most 4 MiB at a time, and with several jobs 8 MiB for each.
+/// Converts one log of any length, in parts. It holds at most 4 MiB of it at a time, and with several jobs at most
+/// 8 MiB for each, or 32 MiB for all.
 ///
 /// A refusal, in whatever part, leaves the output as it was, and STOP names the first record of the whole log:
 ///
@@ -111,10 +112,10 @@ impl<'a> LogConverter<'a> {
         self
     }
 
-    /// Converts on so many threads, with the same output, totals and refusal. 0 and 1: on the caller's thread.
+    /// Converts on so many threads, 64 at most, with the same output, totals and refusal. 0 and 1: on the caller's thread.
     #[must_use]
     pub fn jobs(mut self, jobs: usize) -> Self {
-        self.jobs = jobs.max(1);
+        self.jobs = jobs.clamp(1, 64);
         self
     }
 
@@ -159,13 +160,19 @@ impl<'a> LogConverter<'a> {
     /// # Ok::<(), yirvagul::LogError>(())
     /// ```
     pub fn parts(mut self, log: impl Into<Input<'a>>) -> Result<Parts<'a>, LogError> {
+        self.jobs = 1;
         let plan = self.plan()?;
         let log = Source::open(log.into(), "the log")?;
         Ok(Parts::new(self.feed(plan, log, false)?))
     }
 
     fn plan(&self) -> Result<Plan<'a>, Error> {
-        Plan::new(self.source_sheet, self.destination_sheet, self.handling)
+        Plan::new(
+            self.source_sheet,
+            self.destination_sheet,
+            self.handling,
+            self.jobs,
+        )
     }
 
     fn feed<'b>(

@@ -91,28 +91,36 @@ impl<'a> Output<'a> {
 }
 
 fn look_at<'a>(path: &Path, name: &str) -> io::Result<Target<'a>> {
-    let meta = match fs::metadata(path) {
-        Err(e) if e.kind() == ErrorKind::NotFound => {
-            return Ok(Target::Replaced(Replaced {
-                name: name.into(),
-                path: path.into(),
-                permissions: None,
-            }))
+    let (path, permissions) = match fs::metadata(path) {
+        Err(e) if e.kind() == ErrorKind::NotFound => (behind_links(path), None),
+        Err(e) => return Err(e),
+        Ok(meta) => {
+            // a file that may not be written is not replaced either
+            let file = OpenOptions::new().write(true).open(path)?;
+            if !meta.is_file() {
+                return Ok(Target::Written(Box::new(file), name.into()));
+            }
+            (path.canonicalize()?, Some(meta.permissions()))
         }
-        meta => meta?,
     };
-    // a file that may not be written is not replaced either
-    let file = OpenOptions::new().write(true).open(path)?;
-    Ok(if meta.is_file() {
-        Target::Replaced(Replaced {
-            name: name.into(),
-            // behind a link, the file that it leads to
-            path: path.canonicalize()?,
-            permissions: Some(meta.permissions()),
-        })
-    } else {
-        Target::Written(Box::new(file), name.into())
-    })
+    Ok(Target::Replaced(Replaced {
+        name: name.into(),
+        path,
+        permissions,
+    }))
+}
+
+/// Where links lead to that lead to no file yet. More than 40 are taken for a circle, as the system does.
+fn behind_links(path: &Path) -> PathBuf {
+    let mut path = path.to_path_buf();
+    for _ in 0..40 {
+        let Ok(target) = fs::read_link(&path) else {
+            break;
+        };
+        path.pop();
+        path.push(target);
+    }
+    path
 }
 
 impl<'a> Target<'a> {

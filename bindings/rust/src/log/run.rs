@@ -12,6 +12,9 @@ const PART_RECORDS: usize = 65_536;
 /// The most bytes of a part's source, or of what it is converted to.
 const PART_BYTES: usize = 2 << 20;
 
+/// The most bytes that all parts have together, sources and what they are converted to.
+const ALL_BYTES: usize = 32 << 20;
+
 /// A call's stack, and room for the rest that a thread does.
 const THREAD_STACK_BYTES: usize = STACK_BYTES + (1 << 19);
 
@@ -29,23 +32,25 @@ pub(super) struct Plan<'a> {
 }
 
 impl<'a> Plan<'a> {
-    /// Has the library judge the sheets and the path between them, by converting no record.
+    /// Has the library judge the sheets and the path between them, by converting no record. Two parts of each job are on their way at a time.
     pub fn new(
         source_sheet: &'a [u8],
         destination_sheet: &'a [u8],
         handling: Handling,
+        jobs: usize,
     ) -> Result<Self, Error> {
         let mut c = Converter::new();
         c.convert_copying(source_sheet, destination_sheet, 0, handling, &[], &mut [])?;
         let from = c.record_size(source_sheet)?;
         let to = c.record_size(destination_sheet)?;
+        let bytes = PART_BYTES.min(ALL_BYTES / 4 / jobs);
         Ok(Plan {
             source_sheet,
             destination_sheet,
             handling,
             from,
             to,
-            records: (PART_BYTES / from.max(to)).min(PART_RECORDS),
+            records: (bytes / from.max(to)).clamp(1, PART_RECORDS),
         })
     }
 }

@@ -188,7 +188,8 @@ fn a_fault_that_the_library_places_elsewhere_is_not_explained() {
         Error::Source {
             line: 2,
             text: Some(_),
-            rule: None
+            rule: None,
+            only: true,
         }
     ));
 }
@@ -199,7 +200,7 @@ fn unknown_numbers_and_kinds_are_said() {
     assert_eq!((e.number(), e.name()), (12, "UNKNOWN"));
     assert_eq!(
         e.to_string(),
-        "UNKNOWN (12): a refusal that this version does not know, with the words [12, 0, 0, 0, 0, 0, 0, 0]: take the version of the library"
+        "UNKNOWN (12): a refusal that this version does not know, with the words [12, 0, 0, 0, 0, 0, 0, 0]: use a newer wrapper"
     );
     let Error::Stop { kind, .. } = Error::from_answer([8, 0, 0, 0, 0, 5, 0, 0]) else {
         panic!("no STOP")
@@ -207,7 +208,7 @@ fn unknown_numbers_and_kinds_are_said() {
     assert_eq!((kind, kind.number()), (Kind::Unknown(5), 5));
     assert_eq!(
         kind.to_string(),
-        "the number does not fit, for a reason that this version does not know (kind 5): clamp, or take the version of the library"
+        "the number does not fit, for a reason that this version does not know (kind 5): clamp, or use a newer wrapper"
     );
 }
 

@@ -54,7 +54,7 @@ fn the_whole_sheet() {
     let e = leaf_list(&vec![b'x'; 16_385]).unwrap_err();
     assert_eq!(
         e.to_string(),
-        format!("SOURCE (3): the source sheet is faulty: {long}")
+        format!("SOURCE (3): the sheet is faulty: {long}")
     );
     breaks(b"", 1, "the sheet is empty: it has at least one type");
     breaks(
