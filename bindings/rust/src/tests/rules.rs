@@ -441,6 +441,9 @@ fn valid_sheets_have_no_fault() {
         format!("{wide}enum\t0\n{values}"),
         format!("{wide}array\t0\t1\t2\t4\t256\narray\t1\t1\ncomp\t1\n"),
         wide.repeat(64),
+        "int\t8\tBE\t0\t64\tone\tone\tunsigned\nenum\t0\nvalue\tall\t18446744073709551615\n"
+            .to_string(),
+        format!("{wide}enum\t0\narray\t1\t3\ncomp\t2\narray\t3\t3\n"),
     ] {
         assert_eq!(sheet::read(sheet.as_bytes()).err(), None, "{sheet}");
         assert!(leaf_list(sheet.as_bytes()).is_ok());
