@@ -45,14 +45,13 @@ pub fn convert_log_parts<'a>(
     LogConverter::new(source_sheet, destination_sheet, handling).parts(log)
 }
 
-/// Converts one log of any length, in parts. It holds at most 4 MiB of it at a time, and with several jobs at most
-/// 8 MiB for each, or 32 MiB for all.
+/// Converts one log of any length, in parts. It holds at most 4 MiB of it at a time; with several jobs 8 MiB for each, and 32 MiB in all.
 ///
 /// A refusal, in whatever part, leaves the output as it was, and STOP names the first record of the whole log:
 ///
 /// - into a path, the output goes to a file beside it, which is renamed when it is complete; so any failure leaves the path as it was;
-/// - into a buffer or an open file, all parts are gone over before the first byte is written. A log that can be read only once then goes through a temporary
-///   file, in the folder of [`std::env::temp_dir`].
+/// - into a buffer or an open file, all parts are gone over before the first byte is written, and the log must not change meanwhile. One that can be read
+///   only once goes through a temporary file, in the folder of [`std::env::temp_dir`].
 ///
 /// Only [`LogConverter::parts`] hands out parts before later ones are looked at.
 ///
