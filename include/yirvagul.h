@@ -17,15 +17,15 @@
 #ifndef YIRVAGUL_H
 #define YIRVAGUL_H
 
+/* The version of this header, for #if: major * 10,000 + minor * 100 + patch. */
+#define YIRVAGUL_VERSION 100
+
 #include <stddef.h>
 #include <stdint.h>
 
 #ifdef __cplusplus
 extern "C" {
 #endif
-
-/* The version of this header, for #if: major * 10,000 + minor * 100 + patch. */
-#define YIRVAGUL_VERSION 100
 
 /* The working table that the converting calls and the list read sheets into: lend at least this many 32-bit words. What it held does not matter. Its
  * first 8,192 words are zero after every call, except after HANDLING and TABLE, which leave it as it was; words beyond never change. */
@@ -60,8 +60,25 @@ enum {
     YIRVAGUL_RANGE = 9
 };
 
-/* The name of such a number, as "DONE" or "SOURCE", for messages; "UNKNOWN" of a number that is none of them. C89 has no inline functions, and so not
- * this one. */
+/* The answer's eight words. Each converting call and the list write all of them; a word that the number does not name is 0. */
+enum {
+    YIRVAGUL_ANSWER_NUMBER = 0, /* what the call returned */
+    YIRVAGUL_ANSWER_COUNT = 1,  /* done: how many leaves raised an exception; of the list, its length in bytes */
+    YIRVAGUL_ANSWER_LINE = 2,   /* SOURCE, DESTINATION: the first faulty line */
+    YIRVAGUL_ANSWER_RECORD = 3, /* STOP: the record, from 0 */
+    YIRVAGUL_ANSWER_AT = 4,     /* STOP: the leaf's first byte in its destination record, from 0 */
+    YIRVAGUL_ANSWER_KIND = 5    /* STOP: the kind of exception; words 6 and 7 are for later, and 0 */
+};
+
+/* Kinds of exception, and what clamping writes. */
+enum {
+    YIRVAGUL_ABOVE = 1,    /* the number is above the destination's range: the largest is written */
+    YIRVAGUL_BELOW = 2,    /* it is below it: the smallest is written */
+    YIRVAGUL_NO_SYMBOL = 3 /* an enum's number has no symbol, or its symbol is not in the destination: all significant bits are one */
+};
+
+/* The name of a number that a call returns, as "DONE" or "SOURCE", for messages; "UNKNOWN" of a number that is none of them. C89 has no inline
+ * functions, and so not this one. */
 #if defined(__cplusplus) || (defined(__STDC_VERSION__) && __STDC_VERSION__ >= 199901L)
 static inline const char *yirvagul_name(uint32_t number) {
     switch (number) {
@@ -79,23 +96,6 @@ static inline const char *yirvagul_name(uint32_t number) {
     }
 }
 #endif
-
-/* The answer's eight words. Each converting call and the list write all of them; a word that the number does not name is 0. */
-enum {
-    YIRVAGUL_ANSWER_NUMBER = 0, /* what the call returned */
-    YIRVAGUL_ANSWER_COUNT = 1,  /* done: how many leaves raised an exception; of the list, its length in bytes */
-    YIRVAGUL_ANSWER_LINE = 2,   /* SOURCE, DESTINATION: the first faulty line */
-    YIRVAGUL_ANSWER_RECORD = 3, /* STOP: the record, from 0 */
-    YIRVAGUL_ANSWER_AT = 4,     /* STOP: the leaf's first byte in its destination record, from 0 */
-    YIRVAGUL_ANSWER_KIND = 5    /* STOP: the kind of exception; words 6 and 7 are for later, and 0 */
-};
-
-/* Kinds of exception, and what clamping writes. */
-enum {
-    YIRVAGUL_ABOVE = 1,    /* the number is above the destination's range: the largest is written */
-    YIRVAGUL_BELOW = 2,    /* it is below it: the smallest is written */
-    YIRVAGUL_NO_SYMBOL = 3 /* an enum's number has no symbol, or its symbol is not in the destination: all significant bits are one */
-};
 
 /* ---- converting ---- */
 

@@ -104,6 +104,42 @@ static void test_table(void) {
     expect(zero && table[YIRVAGUL_TABLE_WORDS] == 7, "the table afterwards");
 }
 
+static void expect_layout(uint32_t returned, uint32_t number, const uint32_t layout[8], const uint32_t wanted[8], const char *what) {
+    expect(returned == number && memcmp(layout, wanted, 8 * sizeof *wanted) == 0, what);
+}
+
+static void test_setters(void) {
+    uint32_t l[8] = {YIRVAGUL_INT, 4, YIRVAGUL_LE, 16, 16, 0, 0, YIRVAGUL_UNSIGNED};
+    const uint32_t shrunk[8] = {0, 3, 0, 8, 16, 0, 0, 0};
+    const uint32_t precise[8] = {0, 3, 0, 4, 20, 0, 0, 0};
+    const uint32_t moved[8] = {0, 5, 0, 20, 20, 0, 0, 0};
+    const uint32_t styled[8] = {0, 5, 1, 20, 20, 1, 2, 1};
+    expect_layout(yirvagul_set_size(l, 3), 0, l, shrunk, "size");
+    expect_layout(yirvagul_set_size(l, 9), 9, l, shrunk, "size 9");
+    expect_layout(yirvagul_set_precision(l, 20), 0, l, precise, "precision");
+    expect_layout(yirvagul_set_precision(l, 65), 9, l, precise, "precision 65");
+    expect_layout(yirvagul_set_offset(l, 20), 0, l, moved, "offset");
+    expect_layout(yirvagul_set_offset(l, 4294967295u), 9, l, moved, "an offset that would wrap");
+    yirvagul_set_order(l, YIRVAGUL_BE);
+    yirvagul_set_pads(l, YIRVAGUL_PAD_ONE, YIRVAGUL_PAD_KEEP);
+    expect_layout(yirvagul_set_sign(l, YIRVAGUL_SIGNED), 0, l, styled, "order, pads, sign");
+    expect_layout(yirvagul_set_order(l, 2), 9, l, styled, "order 2");
+    expect_layout(yirvagul_set_pads(l, 0, 3), 9, l, styled, "pads 0, 3");
+    expect_layout(yirvagul_set_sign(l, 2), 9, l, styled, "sign 2");
+}
+
+static void test_faulty_layouts(void) {
+    uint32_t bits[8] = {YIRVAGUL_BITS, 1, 0, 0, 8, 0, 0, 0};
+    uint32_t order[8] = {0, 1, 7, 0, 8, 0, 0, 0};
+    uint32_t wide[8] = {0, 1, 0, 1, 8, 0, 0, 0};
+    const uint32_t kept_bits[8] = {YIRVAGUL_BITS, 1, 0, 0, 8, 0, 0, 0};
+    const uint32_t kept_order[8] = {0, 1, 7, 0, 8, 0, 0, 0};
+    const uint32_t kept_wide[8] = {0, 1, 0, 1, 8, 0, 0, 0};
+    expect_layout(yirvagul_set_sign(bits, YIRVAGUL_SIGNED), 9, bits, kept_bits, "sign on bits");
+    expect_layout(yirvagul_set_size(order, 2), 9, order, kept_order, "a layout with no order");
+    expect_layout(yirvagul_set_size(wide, 2), 9, wide, kept_wide, "a layout that breaks the rules");
+}
+
 /* Nothing is read or written through a pointer whose length is 0. */
 static void test_null(void) {
     const uint8_t *byte = (const uint8_t *)BYTE;
@@ -144,50 +180,14 @@ static void test_names(void) {
 #error "YIRVAGUL_VERSION is no number that #if can compare"
 #endif
 
-static void expect_layout(uint32_t returned, uint32_t number, const uint32_t layout[8], const uint32_t wanted[8], const char *what) {
-    expect(returned == number && memcmp(layout, wanted, 8 * sizeof *wanted) == 0, what);
-}
-
-static void test_setters(void) {
-    uint32_t l[8] = {YIRVAGUL_INT, 4, YIRVAGUL_LE, 16, 16, 0, 0, YIRVAGUL_UNSIGNED};
-    const uint32_t shrunk[8] = {0, 3, 0, 8, 16, 0, 0, 0};
-    const uint32_t precise[8] = {0, 3, 0, 4, 20, 0, 0, 0};
-    const uint32_t moved[8] = {0, 5, 0, 20, 20, 0, 0, 0};
-    const uint32_t styled[8] = {0, 5, 1, 20, 20, 1, 2, 1};
-    expect_layout(yirvagul_set_size(l, 3), 0, l, shrunk, "size");
-    expect_layout(yirvagul_set_size(l, 9), 9, l, shrunk, "size 9");
-    expect_layout(yirvagul_set_precision(l, 20), 0, l, precise, "precision");
-    expect_layout(yirvagul_set_precision(l, 65), 9, l, precise, "precision 65");
-    expect_layout(yirvagul_set_offset(l, 20), 0, l, moved, "offset");
-    expect_layout(yirvagul_set_offset(l, 4294967295u), 9, l, moved, "an offset that would wrap");
-    yirvagul_set_order(l, YIRVAGUL_BE);
-    yirvagul_set_pads(l, YIRVAGUL_PAD_ONE, YIRVAGUL_PAD_KEEP);
-    expect_layout(yirvagul_set_sign(l, YIRVAGUL_SIGNED), 0, l, styled, "order, pads, sign");
-    expect_layout(yirvagul_set_order(l, 2), 9, l, styled, "order 2");
-    expect_layout(yirvagul_set_pads(l, 0, 3), 9, l, styled, "pads 0, 3");
-    expect_layout(yirvagul_set_sign(l, 2), 9, l, styled, "sign 2");
-}
-
-static void test_faulty_layouts(void) {
-    uint32_t bits[8] = {YIRVAGUL_BITS, 1, 0, 0, 8, 0, 0, 0};
-    uint32_t order[8] = {0, 1, 7, 0, 8, 0, 0, 0};
-    uint32_t wide[8] = {0, 1, 0, 1, 8, 0, 0, 0};
-    const uint32_t kept_bits[8] = {YIRVAGUL_BITS, 1, 0, 0, 8, 0, 0, 0};
-    const uint32_t kept_order[8] = {0, 1, 7, 0, 8, 0, 0, 0};
-    const uint32_t kept_wide[8] = {0, 1, 0, 1, 8, 0, 0, 0};
-    expect_layout(yirvagul_set_sign(bits, YIRVAGUL_SIGNED), 9, bits, kept_bits, "sign on bits");
-    expect_layout(yirvagul_set_size(order, 2), 9, order, kept_order, "a layout with no order");
-    expect_layout(yirvagul_set_size(wide, 2), 9, wide, kept_wide, "a layout that breaks the rules");
-}
-
 int main(void) {
     test_copying();
     test_in_place();
     test_list();
     test_table();
-    test_null();
-    test_names();
     test_setters();
     test_faulty_layouts();
+    test_null();
+    test_names();
     return failed;
 }
