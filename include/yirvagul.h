@@ -5,7 +5,8 @@
  * allocates nothing and can be called from several threads at once, each with its own buffers.
  *
  * What a caller owes, since C cannot say it in a type:
- *   - each pointer points at as many elements as the length beside it says, and is not NULL, also where that length is 0;
+ *   - each pointer points at as many elements as the length beside it says; a sheet, a buffer or a table of length 0 may be NULL;
+ *   - answer and layout point at eight words each, and are never NULL;
  *   - a buffer that is written (destination, buffer, list, table, answer, layout) overlaps no other argument.
  *
  * Sheets are text: lines ended by byte 10, fields parted by one tab, for example a compound of one 12-bit pressure:
@@ -16,6 +17,9 @@
  */
 #ifndef YIRVAGUL_H
 #define YIRVAGUL_H
+
+/* The version of this header, for #if: major * 10,000 + minor * 100 + patch. */
+#define YIRVAGUL_VERSION 100
 
 #include <stddef.h>
 #include <stdint.h>
@@ -73,6 +77,26 @@ enum {
     YIRVAGUL_BELOW = 2,    /* it is below it: the smallest is written */
     YIRVAGUL_NO_SYMBOL = 3 /* an enum's number has no symbol, or its symbol is not in the destination: all significant bits are one */
 };
+
+/* The name of a number that a call returns, as "DONE" or "SOURCE", for messages; "UNKNOWN" of a number that is none of them. C89 has no inline
+ * functions, and so not this one. */
+#if defined(__cplusplus) || (defined(__STDC_VERSION__) && __STDC_VERSION__ >= 199901L)
+static inline const char *yirvagul_name(uint32_t number) {
+    switch (number) {
+    case YIRVAGUL_DONE: return "DONE";
+    case YIRVAGUL_HANDLING: return "HANDLING";
+    case YIRVAGUL_TABLE: return "TABLE";
+    case YIRVAGUL_SOURCE: return "SOURCE";
+    case YIRVAGUL_DESTINATION: return "DESTINATION";
+    case YIRVAGUL_PATH: return "PATH";
+    case YIRVAGUL_COUNT: return "COUNT";
+    case YIRVAGUL_ROOM: return "ROOM";
+    case YIRVAGUL_STOP: return "STOP";
+    case YIRVAGUL_RANGE: return "RANGE";
+    default: return "UNKNOWN";
+    }
+}
+#endif
 
 /* ---- converting ---- */
 

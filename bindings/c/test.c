@@ -180,6 +180,46 @@ static void test_faulty_layouts(void) {
     expect_layout(yirvagul_set_size(wide, 2), 9, wide, kept_wide, "a layout that breaks the rules");
 }
 
+/* Nothing is read or written through a pointer whose length is 0. */
+static void test_null(void) {
+    const uint8_t *byte = (const uint8_t *)BYTE;
+    const size_t len = sizeof BYTE - 1;
+    uint8_t out[1] = {0x77};
+    expect_answer(yirvagul_convert_copying(NULL, 0, byte, len, 0, 0, NULL, 0, NULL, 0, table, YIRVAGUL_TABLE_WORDS, answer), 3, 0, 1, 0, 0, 0,
+                  "a NULL source sheet");
+    expect_answer(yirvagul_convert_copying(byte, len, NULL, 0, 0, 0, NULL, 0, NULL, 0, table, YIRVAGUL_TABLE_WORDS, answer), 4, 0, 1, 0, 0, 0,
+                  "a NULL destination sheet");
+    expect_answer(yirvagul_convert_copying(byte, len, byte, len, 0, 1, NULL, 0, NULL, 0, table, YIRVAGUL_TABLE_WORDS, answer), 0, 0, 0, 0, 0, 0,
+                  "copying no record, NULL to NULL");
+    expect_answer(yirvagul_convert_copying(byte, len, byte, len, 1, 1, NULL, 0, out, 1, table, YIRVAGUL_TABLE_WORDS, answer), 7, 0, 0, 0, 0, 0,
+                  "ROOM, a NULL source");
+    expect_answer(yirvagul_convert_copying(byte, len, byte, len, 1, 1, byte, 1, NULL, 0, table, YIRVAGUL_TABLE_WORDS, answer), 7, 0, 0, 0, 0, 0,
+                  "ROOM, a NULL destination");
+    expect_answer(yirvagul_convert_copying_plain(byte, len, byte, len, 0, NULL, 0, NULL, 0, table, YIRVAGUL_TABLE_WORDS, answer), 0, 0, 0, 0, 0, 0,
+                  "copying no record, plain");
+    expect_answer(yirvagul_convert_in_place(byte, len, byte, len, 0, 1, NULL, 0, NULL, 0, table, YIRVAGUL_TABLE_WORDS, answer), 0, 0, 0, 0, 0, 0,
+                  "no record in a NULL buffer");
+    expect_answer(yirvagul_convert_in_place(byte, len, byte, len, 1, 1, NULL, 0, byte, 1, table, YIRVAGUL_TABLE_WORDS, answer), 7, 0, 0, 0, 0, 0,
+                  "ROOM, a NULL buffer");
+    expect_answer(yirvagul_convert_in_place_plain(byte, len, byte, len, 1, out, 1, NULL, 0, table, YIRVAGUL_TABLE_WORDS, answer), 7, 0, 0, 0, 0, 0,
+                  "ROOM, a NULL background");
+    expect(out[0] == 0x77, "ROOM leaves the buffers");
+    expect_answer(yirvagul_leaf_list(NULL, 0, NULL, 0, table, YIRVAGUL_TABLE_WORDS, answer), 3, 0, 1, 0, 0, 0, "the list of a NULL sheet");
+    expect_answer(yirvagul_leaf_list(byte, len, NULL, 0, table, YIRVAGUL_TABLE_WORDS, answer), 7, 0, 0, 0, 0, 0, "ROOM, a NULL list");
+    expect_answer(yirvagul_leaf_list(byte, len, NULL, 0, NULL, 0, answer), 2, 0, 0, 0, 0, 0, "TABLE, a NULL table");
+}
+
+static void test_names(void) {
+    static const char *const names[] = {"DONE", "HANDLING", "TABLE", "SOURCE", "DESTINATION", "PATH", "COUNT", "ROOM", "STOP", "RANGE"};
+    uint32_t number;
+    for (number = 0; number <= YIRVAGUL_RANGE; number++) expect(strcmp(yirvagul_name(number), names[number]) == 0, names[number]);
+    expect(strcmp(yirvagul_name(4294967295u), "UNKNOWN") == 0, "the name of a number that is none");
+}
+
+#if YIRVAGUL_VERSION < 100
+#error "YIRVAGUL_VERSION is no number that #if can compare"
+#endif
+
 int main(void) {
     test_copying();
     test_in_place();
@@ -188,5 +228,7 @@ int main(void) {
     test_record_size();
     test_setters();
     test_faulty_layouts();
+    test_null();
+    test_names();
     return failed;
 }
