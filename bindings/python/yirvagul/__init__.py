@@ -23,6 +23,7 @@ from .calls import (
 )
 from .errors import Kind, Number, Refusal, Short
 from .layout import Class, Layout, Order, Pad, Sign
+from .log import Part, convert_log, convert_log_parts
 
 __version__ = "0.1.0"
 
@@ -36,6 +37,7 @@ __all__ = [
     "Number",
     "Order",
     "Pad",
+    "Part",
     "Refusal",
     "Short",
     "Sign",
@@ -43,6 +45,8 @@ __all__ = [
     "convert_copying_plain",
     "convert_in_place",
     "convert_in_place_plain",
+    "convert_log",
+    "convert_log_parts",
     "leaf_list",
     "record_size",
 ]
