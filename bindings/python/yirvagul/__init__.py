@@ -11,6 +11,7 @@ Calls keep nothing and let other threads run meanwhile: any number of threads ma
 takes at most `STACK_BYTES` of its thread's stack.
 """
 
+from .arrays import convert_to_array, dtype_of, sheet_of
 from .calls import (
     LIST_BYTES,
     Handling,
@@ -47,8 +48,11 @@ __all__ = [
     "convert_in_place_plain",
     "convert_log",
     "convert_log_parts",
+    "convert_to_array",
+    "dtype_of",
     "leaf_list",
     "record_size",
+    "sheet_of",
 ]
 
 STACK_BYTES = 163840
