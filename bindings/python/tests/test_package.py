@@ -67,7 +67,7 @@ class Names(unittest.TestCase):
 
     def test_stack(self):
         """As the header says it, once it does; then every call runs in a thread with that stack and a little for Python itself."""
-        said = re.search(r"^#define YIRVAGUL_STACK_BYTES (\d+)", (REPOSITORY / "include/yirvagul.h").read_text(), re.M)
+        said = re.search(r"^#define YIRVAGUL_STACK_BYTES \(?(\d+)", (REPOSITORY / "include/yirvagul.h").read_text(), re.M)
         if said is None:
             self.skipTest("the header does not say it yet")
         self.assertEqual(yirvagul.STACK_BYTES, int(said[1]))
