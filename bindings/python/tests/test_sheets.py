@@ -32,7 +32,8 @@ RULES = {
     "another case": ("Comp\t4\n", 1, "it starts with `Comp`: write comp"),
     "a tab first": ("\tcomp\t4\n", 1, "it starts with a tab: a line starts with one of int, bits, enum, value, comp, member, array"),
     "blanks for tabs": ("comp 4\n", 1, "its fields are parted by blanks: part them by one tab"),
-    "a tab last": ("comp\t4\t\n", 1, "it ends in a tab: leave that out"),
+    "a tab last": ("comp\t4\t\n", 1, "it ends in a tab: write the field that is missing, or leave the tab out"),
+    "an empty field last": (ENUM + "value\ta\t\n", 3, "it ends in a tab: write the field that is missing, or leave the tab out"),
     "fields of int": (
         "int\t1\tLE\t0\t8\tzero\tzero\n",
         1,

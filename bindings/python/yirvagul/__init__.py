@@ -1,8 +1,8 @@
 """Converts records of instrument logs from one binary layout to another, lists a layout's leaves, and edits atomic layouts.
 
 A wrapper over Yirvagul's proved C library. A sheet is text or its bytes. A buffer that is read is anything with contiguous bytes (bytes, bytearray,
-memoryview, mmap, array, numpy array); one that is written is writable and shares no byte with one that is read (two mappings of one file do, unseen).
-Nothing is copied but sheets.
+memoryview, mmap, array, numpy array); one that is written is writable and shares no byte with one that is read, which is checked but for two mappings
+of one file. Nothing is copied but sheets.
 
 A refused call raises `Refusal` and leaves buffers, layouts and logs as they were. Handling is what to do with numbers that do not fit:
 `Handling.CLAMP` writes the nearest that fits and counts it, `Handling.STOP` refuses.

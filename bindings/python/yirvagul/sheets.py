@@ -159,7 +159,7 @@ class _Reading:
         if word not in _WORDS:
             raise _Broken(_no_word(word))
         if fields and not fields[-1]:
-            raise _Broken("it ends in a tab: leave that out")
+            raise _Broken("it ends in a tab: write the field that is missing, or leave the tab out")
         if word in _FIELDS and len(fields) != len(_FIELDS[word]):
             has, wanted = _many(1 + len(fields), "field"), ", ".join((word, *_FIELDS[word]))
             raise _Broken(f"it has {has}, and {word} has {1 + len(_FIELDS[word])}, parted by one tab: {wanted}")
