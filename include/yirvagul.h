@@ -1,10 +1,12 @@
-/* Yirvagul: converts records of instrument logs from one binary layout to another, in place or copying, lists a layout's leaves, and edits atomic layouts.
+/* Yirvagul: converts records of instrument logs from one binary layout to another, in place or copying, lists a layout's leaves, tells a record's size,
+ * and edits atomic layouts.
  *
  * Link with libcapi.a. Every call is proved against a definition of what it answers and of every byte that it leaves; it keeps nothing between calls,
  * allocates nothing and can be called from several threads at once, each with its own buffers.
  *
  * What a caller owes, since C cannot say it in a type:
- *   - each pointer points at as many elements as the length beside it says, and is not NULL, also where that length is 0;
+ *   - each pointer points at as many elements as the length beside it says; a sheet, a buffer or a table of length 0 may be NULL;
+ *   - answer and layout point at eight words each, and are never NULL;
  *   - a buffer that is written (destination, buffer, list, table, answer, layout) overlaps no other argument.
  *
  * Sheets are text: lines ended by byte 10, fields parted by one tab, for example a compound of one 12-bit pressure:
@@ -16,6 +18,9 @@
 #ifndef YIRVAGUL_H
 #define YIRVAGUL_H
 
+/* The version of this header, for #if: major * 10,000 + minor * 100 + patch. */
+#define YIRVAGUL_VERSION 100
+
 #include <stddef.h>
 #include <stdint.h>
 
@@ -23,8 +28,8 @@
 extern "C" {
 #endif
 
-/* The working table that the converting calls and the list read sheets into: lend at least this many 32-bit words. What it held does not matter. Its
- * first 8,192 words are zero after every call, except after HANDLING and TABLE, which leave it as it was; words beyond never change. */
+/* The working table that a call reads sheets into: lend at least this many 32-bit words. What it held does not matter. Its first 8,192 words are zero
+ * after every call, except after HANDLING and TABLE, which leave it as it was; words beyond never change. */
 #define YIRVAGUL_TABLE_WORDS 8192
 
 /* ---- what a call answers ---- */
@@ -37,8 +42,8 @@ enum {
     YIRVAGUL_HANDLING = 1,
     /* The table has fewer than YIRVAGUL_TABLE_WORDS words. Lend a longer one. */
     YIRVAGUL_TABLE = 2,
-    /* The source sheet (of the list, the only sheet) is faulty at `line`, counted from 1. Correct that line: a line is judged by itself and the lines
-     * before it. Line 0: the sheet is longer than 16,384 bytes. A last line without byte 10 is faulty at its own number. */
+    /* The source sheet, or the only one, is faulty at `line`, counted from 1. Correct that line: a line is judged by itself and the lines before it.
+     * Line 0: the sheet is longer than 16,384 bytes. A last line without byte 10 is faulty at its own number. */
     YIRVAGUL_SOURCE = 3,
     /* The destination sheet is faulty at `line`, likewise. */
     YIRVAGUL_DESTINATION = 4,
@@ -56,10 +61,10 @@ enum {
     YIRVAGUL_RANGE = 9
 };
 
-/* The answer's eight words. Each converting call and the list write all of them; a word that the number does not name is 0. */
+/* The answer's eight words. Each call that reads sheets writes all of them; a word that the number does not name is 0. */
 enum {
     YIRVAGUL_ANSWER_NUMBER = 0, /* what the call returned */
-    YIRVAGUL_ANSWER_COUNT = 1,  /* done: how many leaves raised an exception; of the list, its length in bytes */
+    YIRVAGUL_ANSWER_COUNT = 1,  /* done: how many leaves raised an exception; of the list, its length in bytes; of the record size, that size in bytes */
     YIRVAGUL_ANSWER_LINE = 2,   /* SOURCE, DESTINATION: the first faulty line */
     YIRVAGUL_ANSWER_RECORD = 3, /* STOP: the record, from 0 */
     YIRVAGUL_ANSWER_AT = 4,     /* STOP: the leaf's first byte in its destination record, from 0 */
@@ -72,6 +77,26 @@ enum {
     YIRVAGUL_BELOW = 2,    /* it is below it: the smallest is written */
     YIRVAGUL_NO_SYMBOL = 3 /* an enum's number has no symbol, or its symbol is not in the destination: all significant bits are one */
 };
+
+/* The name of a number that a call returns, as "DONE" or "SOURCE", for messages; "UNKNOWN" of a number that is none of them. C89 has no inline
+ * functions, and so not this one. */
+#if defined(__cplusplus) || (defined(__STDC_VERSION__) && __STDC_VERSION__ >= 199901L)
+static inline const char *yirvagul_name(uint32_t number) {
+    switch (number) {
+    case YIRVAGUL_DONE: return "DONE";
+    case YIRVAGUL_HANDLING: return "HANDLING";
+    case YIRVAGUL_TABLE: return "TABLE";
+    case YIRVAGUL_SOURCE: return "SOURCE";
+    case YIRVAGUL_DESTINATION: return "DESTINATION";
+    case YIRVAGUL_PATH: return "PATH";
+    case YIRVAGUL_COUNT: return "COUNT";
+    case YIRVAGUL_ROOM: return "ROOM";
+    case YIRVAGUL_STOP: return "STOP";
+    case YIRVAGUL_RANGE: return "RANGE";
+    default: return "UNKNOWN";
+    }
+}
+#endif
 
 /* ---- converting ---- */
 
@@ -113,6 +138,11 @@ uint32_t yirvagul_convert_in_place_plain(const uint8_t *source_sheet, size_t sou
  * length; bytes past it stay. Answers DONE, TABLE, SOURCE or ROOM. */
 uint32_t yirvagul_leaf_list(const uint8_t *sheet, size_t sheet_len, uint8_t *list, size_t list_len, uint32_t *table, size_t table_len,
                             uint64_t answer[8]);
+
+/* ---- the size of a record ---- */
+
+/* Gives the size in bytes, 1 to 4,096, of one record of the sheet's type: n records take n times as many. Answers DONE, TABLE or SOURCE. */
+uint32_t yirvagul_record_size(const uint8_t *sheet, size_t sheet_len, uint32_t *table, size_t table_len, uint64_t answer[8]);
 
 /* ---- setters ---- */
 

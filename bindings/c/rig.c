@@ -36,8 +36,10 @@ int main(void) {
                                                    (uint32_t)handling, log, sizeof log, out, sizeof out, table, YIRVAGUL_TABLE_WORDS, answer);
         if (number == YIRVAGUL_STOP)
             printf("stopped at record %d, byte %d\n", (int)answer[YIRVAGUL_ANSWER_RECORD], (int)answer[YIRVAGUL_ANSWER_AT]);
-        else if (number != YIRVAGUL_DONE)
+        else if (number != YIRVAGUL_DONE) {
+            fprintf(stderr, "%s\n", yirvagul_name(number));
             return 1;
+        }
     }
     printf("%d exception\n", (int)answer[YIRVAGUL_ANSWER_COUNT]);
     for (i = 0; i < 14; i++) printf("%02x%s", out[i], i % 7 == 6 ? "\n" : " ");

@@ -91,17 +91,57 @@ static void test_list(void) {
     expect_answer(yirvagul_leaf_list((const uint8_t *)BITS, 0, list, 23, table, YIRVAGUL_TABLE_WORDS, answer), 3, 0, 1, 0, 0, 0, "an empty sheet");
 }
 
+static void fill_table(void) {
+    size_t i;
+    for (i = 0; i <= YIRVAGUL_TABLE_WORDS; i++) table[i] = 7;
+}
+
+/* Each word of the filled table is this one now, and the word beyond is as it was. */
+static int table_is(uint32_t word) {
+    size_t i;
+    for (i = 0; i < YIRVAGUL_TABLE_WORDS; i++)
+        if (table[i] != word) return 0;
+    return table[YIRVAGUL_TABLE_WORDS] == 7;
+}
+
 static void test_table(void) {
     uint8_t list[64];
-    size_t i;
-    int zero = 1;
-    for (i = 0; i <= YIRVAGUL_TABLE_WORDS; i++) table[i] = 7;
+    fill_table();
     expect_answer(yirvagul_leaf_list((const uint8_t *)BITS, strlen(BITS), list, sizeof list, table, YIRVAGUL_TABLE_WORDS - 1, answer), 2, 0, 0, 0, 0, 0,
                   "TABLE");
-    expect(table[0] == 7, "TABLE leaves the table");
+    expect(table_is(7), "TABLE leaves the table");
     yirvagul_leaf_list((const uint8_t *)BITS, strlen(BITS), list, sizeof list, table, YIRVAGUL_TABLE_WORDS + 1, answer);
-    for (i = 0; i < YIRVAGUL_TABLE_WORDS; i++) zero = zero && table[i] == 0;
-    expect(zero && table[YIRVAGUL_TABLE_WORDS] == 7, "the table afterwards");
+    expect(table_is(0), "the table afterwards");
+}
+
+/* The call answers this number, size and line, and leaves the table as that number says. */
+static void expect_size(const char *sheet, size_t len, size_t table_len, uint64_t number, uint64_t size, uint64_t line, const char *what) {
+    fill_table();
+    expect_answer(yirvagul_record_size((const uint8_t *)sheet, len, table, table_len, answer), number, size, line, 0, 0, 0, what);
+    expect(table_is(number == YIRVAGUL_TABLE ? 7 : 0), what);
+}
+
+/* A good sheet's size, with a table that is long enough and with one that is longer. */
+static void expect_size_of(const char *sheet, uint64_t size) {
+    expect_size(sheet, strlen(sheet), YIRVAGUL_TABLE_WORDS, YIRVAGUL_DONE, size, 0, sheet);
+    expect_size(sheet, strlen(sheet), YIRVAGUL_TABLE_WORDS + 1, YIRVAGUL_DONE, size, 0, sheet);
+}
+
+static void test_record_size(void) {
+    static char over_long[16385];
+    const char *past_end = PAIR "comp\t9\nmember\tboost\t8\t0\n";
+    expect_size_of(BITS, 1);
+    expect_size_of(BYTE "enum\t0\nvalue\topen\t1\n", 1);
+    expect_size_of(PAIR "array\t0\t3\t5\n", 30);
+    expect_size_of(PAIR "comp\t9\nmember\tboost\t4\t0\n", 9);
+    expect_size_of(PAIR "comp\t4096\n", 4096);
+    expect_size_of(BYTE "comp\t4096\n" PAIR, 2);
+    expect_size(past_end, strlen(past_end), YIRVAGUL_TABLE_WORDS, YIRVAGUL_SOURCE, 0, 3, "the size of a faulty sheet");
+    expect_size(BITS, strlen(BITS) - 1, YIRVAGUL_TABLE_WORDS, YIRVAGUL_SOURCE, 0, 1, "the size of a sheet without its last byte");
+    expect_size(past_end, strlen(past_end), YIRVAGUL_TABLE_WORDS - 1, YIRVAGUL_TABLE, 0, 0, "the size with a short table");
+    memset(over_long, 'x', sizeof over_long);
+    expect_size(over_long, 16384, YIRVAGUL_TABLE_WORDS, YIRVAGUL_SOURCE, 0, 1, "the size of a sheet of 16,384 bytes");
+    expect_size(over_long, 16385, YIRVAGUL_TABLE_WORDS, YIRVAGUL_SOURCE, 0, 0, "the size of an over-long sheet");
 }
 
 static void expect_layout(uint32_t returned, uint32_t number, const uint32_t layout[8], const uint32_t wanted[8], const char *what) {
@@ -140,12 +180,55 @@ static void test_faulty_layouts(void) {
     expect_layout(yirvagul_set_size(wide, 2), 9, wide, kept_wide, "a layout that breaks the rules");
 }
 
+/* Nothing is read or written through a pointer whose length is 0. */
+static void test_null(void) {
+    const uint8_t *byte = (const uint8_t *)BYTE;
+    const size_t len = sizeof BYTE - 1;
+    uint8_t out[1] = {0x77};
+    expect_answer(yirvagul_convert_copying(NULL, 0, byte, len, 0, 0, NULL, 0, NULL, 0, table, YIRVAGUL_TABLE_WORDS, answer), 3, 0, 1, 0, 0, 0,
+                  "a NULL source sheet");
+    expect_answer(yirvagul_convert_copying(byte, len, NULL, 0, 0, 0, NULL, 0, NULL, 0, table, YIRVAGUL_TABLE_WORDS, answer), 4, 0, 1, 0, 0, 0,
+                  "a NULL destination sheet");
+    expect_answer(yirvagul_convert_copying(byte, len, byte, len, 0, 1, NULL, 0, NULL, 0, table, YIRVAGUL_TABLE_WORDS, answer), 0, 0, 0, 0, 0, 0,
+                  "copying no record, NULL to NULL");
+    expect_answer(yirvagul_convert_copying(byte, len, byte, len, 1, 1, NULL, 0, out, 1, table, YIRVAGUL_TABLE_WORDS, answer), 7, 0, 0, 0, 0, 0,
+                  "ROOM, a NULL source");
+    expect_answer(yirvagul_convert_copying(byte, len, byte, len, 1, 1, byte, 1, NULL, 0, table, YIRVAGUL_TABLE_WORDS, answer), 7, 0, 0, 0, 0, 0,
+                  "ROOM, a NULL destination");
+    expect_answer(yirvagul_convert_copying_plain(byte, len, byte, len, 0, NULL, 0, NULL, 0, table, YIRVAGUL_TABLE_WORDS, answer), 0, 0, 0, 0, 0, 0,
+                  "copying no record, plain");
+    expect_answer(yirvagul_convert_in_place(byte, len, byte, len, 0, 1, NULL, 0, NULL, 0, table, YIRVAGUL_TABLE_WORDS, answer), 0, 0, 0, 0, 0, 0,
+                  "no record in a NULL buffer");
+    expect_answer(yirvagul_convert_in_place(byte, len, byte, len, 1, 1, NULL, 0, byte, 1, table, YIRVAGUL_TABLE_WORDS, answer), 7, 0, 0, 0, 0, 0,
+                  "ROOM, a NULL buffer");
+    expect_answer(yirvagul_convert_in_place_plain(byte, len, byte, len, 1, out, 1, NULL, 0, table, YIRVAGUL_TABLE_WORDS, answer), 7, 0, 0, 0, 0, 0,
+                  "ROOM, a NULL background");
+    expect(out[0] == 0x77, "ROOM leaves the buffers");
+    expect_answer(yirvagul_leaf_list(NULL, 0, NULL, 0, table, YIRVAGUL_TABLE_WORDS, answer), 3, 0, 1, 0, 0, 0, "the list of a NULL sheet");
+    expect_answer(yirvagul_leaf_list(byte, len, NULL, 0, table, YIRVAGUL_TABLE_WORDS, answer), 7, 0, 0, 0, 0, 0, "ROOM, a NULL list");
+    expect_answer(yirvagul_leaf_list(byte, len, NULL, 0, NULL, 0, answer), 2, 0, 0, 0, 0, 0, "TABLE, a NULL table");
+}
+
+static void test_names(void) {
+    static const char *const names[] = {"DONE", "HANDLING", "TABLE", "SOURCE", "DESTINATION", "PATH", "COUNT", "ROOM", "STOP", "RANGE"};
+    uint32_t number;
+    for (number = 0; number <= YIRVAGUL_RANGE; number++) expect(strcmp(yirvagul_name(number), names[number]) == 0, names[number]);
+    expect(strcmp(yirvagul_name(4294967295u), "UNKNOWN") == 0, "the name of a number that is none");
+}
+
+#if YIRVAGUL_VERSION < 100
+#error "YIRVAGUL_VERSION is no number that #if can compare"
+#endif
+
 int main(void) {
     test_copying();
     test_in_place();
     test_list();
     test_table();
+    test_record_size();
     test_setters();
     test_faulty_layouts();
+    test_null();
+    test_names();
     return failed;
 }

@@ -11,7 +11,7 @@ use std::rc::Rc;
 #[derive(Clone, Copy, Debug, Default, PartialEq, Eq)]
 pub struct Answer {
     pub number: u64,
-    /// Exceptions, or the length of a list.
+    /// Exceptions, the length of a list, or the size of a record.
     pub count: u64,
     pub line: u64,
     pub record: u64,

@@ -6,6 +6,7 @@ use crate::list;
 use crate::number;
 use crate::setters::{Setter, Words, set};
 use crate::sheet;
+use crate::size;
 
 const TABLE: [u32; 8192] = [7; 8192];
 
@@ -172,4 +173,19 @@ fn lists_the_example() {
     assert_eq!(after.written, room);
     let short = list::leaf_list(LISTED.as_bytes(), &room[..wanted.len() - 1], &TABLE);
     assert_eq!(short.answer, Answer::refused(7));
+}
+
+#[test]
+fn sizes_the_example() {
+    let sized = |sheet: &str, table: &[u32]| size::record_size(sheet.as_bytes(), table);
+    let after = sized(LISTED, &[7; 8193]);
+    assert_eq!(after.answer, Answer::done(8));
+    assert_eq!(after.table[..8192], [0; 8192]);
+    assert_eq!(after.table[8192], 7);
+    let short = sized("x", &TABLE[1..]);
+    assert_eq!(short.answer, Answer::refused(2));
+    assert_eq!(short.table, TABLE[1..]);
+    let faulty = sized(&LISTED[..LISTED.len() - 1], &TABLE);
+    assert_eq!(faulty.answer, Answer::faulty(3, 9));
+    assert_eq!(faulty.table, [0; 8192]);
 }

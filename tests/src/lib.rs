@@ -9,6 +9,7 @@ pub mod number;
 pub mod paths;
 pub mod setters;
 pub mod sheet;
+pub mod size;
 
 #[cfg(test)]
 mod exercises;

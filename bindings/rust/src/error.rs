@@ -1,39 +1,176 @@
-//! Refusals: document 01's numbers, names and place fields, in plain words.
+//! Refusals: document 01's numbers, names and place fields, with what this crate can explain of them, in plain words.
 use crate::raw::Answer;
 use std::fmt;
 
 /// Why a number does not fit its destination leaf.
-#[derive(Clone, Copy, Debug, PartialEq, Eq)]
+#[derive(Clone, Copy, Debug, PartialEq, Eq, Hash)]
+#[non_exhaustive]
 pub enum Kind {
-    /// Above the destination's range.
+    /// It is above the destination's range; [`Handling::Clamp`](crate::Handling::Clamp) writes the largest.
     Above,
-    /// Below it.
+    /// It is below it; clamping writes the smallest.
     Below,
-    /// An enum's number without a symbol, or a symbol that the destination lacks.
+    /// An enum's number has no symbol, or its symbol is not in the destination; clamping sets all significant bits.
     NoSymbol,
+    /// A kind that this version of the crate does not know, by its number.
+    Unknown(u32),
+}
+
+impl Kind {
+    /// The kind's number in document 01.
+    pub fn number(self) -> u32 {
+        match self {
+            Kind::Above => 1,
+            Kind::Below => 2,
+            Kind::NoSymbol => 3,
+            Kind::Unknown(number) => number,
+        }
+    }
+
+    fn from_number(number: u64) -> Kind {
+        match number {
+            1 => Kind::Above,
+            2 => Kind::Below,
+            3 => Kind::NoSymbol,
+            _ => Kind::Unknown(number as u32),
+        }
+    }
+}
+
+/// What is wrong with the number, and what to do about it.
+impl fmt::Display for Kind {
+    fn fmt(&self, f: &mut fmt::Formatter) -> fmt::Result {
+        match self {
+            Kind::Above => f.write_str("the number is above the destination's range: widen the destination, or clamp"),
+            Kind::Below => f.write_str("the number is below the destination's range: widen the destination, or clamp"),
+            Kind::NoSymbol => f.write_str("the number has no symbol, or its symbol is not in the destination: complete the enums, or clamp"),
+            Kind::Unknown(number) => write!(f, "the number does not fit, for a reason that this version does not know (kind {number}): clamp, or use a newer wrapper"),
+        }
+    }
+}
+
+/// A buffer that a call was lent.
+#[derive(Clone, Copy, Debug, PartialEq, Eq, Hash)]
+#[non_exhaustive]
+pub enum Buffer {
+    /// The source records of a copying call.
+    Source,
+    /// The destination of a copying call, or the output of a log.
+    Destination,
+    /// The one buffer of an in-place call.
+    InPlace,
+    /// The background of an in-place call.
+    Background,
+    /// The buffer for a list.
+    List,
+}
+
+impl fmt::Display for Buffer {
+    fn fmt(&self, f: &mut fmt::Formatter) -> fmt::Result {
+        f.write_str(match self {
+            Buffer::Source => "source",
+            Buffer::Destination => "destination",
+            Buffer::InPlace => "buffer",
+            Buffer::Background => "background",
+            Buffer::List => "list buffer",
+        })
+    }
+}
+
+/// A buffer that is too short.
+#[derive(Clone, Copy, Debug, PartialEq, Eq, Hash)]
+#[non_exhaustive]
+pub struct Short {
+    /// Which one.
+    pub buffer: Buffer,
+    /// The bytes that it holds.
+    pub holds: u64,
+    /// The bytes that it needs.
+    pub needs: u64,
 }
 
 /// A refused call. It left data buffers, lists and layouts as they were.
-#[derive(Clone, Copy, Debug, PartialEq, Eq)]
+///
+/// Its text says what is wrong, where, and what to do. The fields that are `Option`s are explanations: this crate reads the sheets once more to find them, and
+/// where it finds none the text says only what the library answered.
+///
+/// ```
+/// let sheet = b"int\t2\tBE\t4\t13\tzero\tzero\tunsigned\n";
+/// let error = yirvagul::leaf_list(sheet).unwrap_err();
+/// assert_eq!((error.number(), error.name()), (3, "SOURCE"));
+/// assert_eq!(
+///     error.to_string(),
+///     "SOURCE (3): line 1 of the sheet is faulty, `int\\t2\\tBE\\t4\\t13\\tzero\\tzero\\tunsigned`: \
+///      offset 4 and precision 13 make 17 bits, above the 16 of 2 bytes: make the size larger, or one of them smaller"
+/// );
+/// ```
+#[derive(Clone, Debug, PartialEq, Eq)]
+#[non_exhaustive]
 pub enum Error {
-    /// Handling is neither 0 nor 1. [`crate::Handling`] has no other values, so no call of this crate gives it.
+    /// Handling is neither 0 nor 1. [`Handling`](crate::Handling) has no other values, so no call of this crate gives it.
     Handling,
-    /// The working table is too short.
+    /// The working table has fewer than [`TABLE_WORDS`](crate::TABLE_WORDS) words.
     Table,
-    /// The first faulty line of the source (or only) sheet, from 1; 0 where the sheet is too long.
-    Source { line: u32 },
-    /// The same of the destination sheet.
-    Destination { line: u32 },
-    /// No path from the source type to the destination type.
-    Path,
-    /// More than 65,536 records.
+    /// The source (or only) sheet is faulty.
+    #[non_exhaustive]
+    Source {
+        /// The first faulty line, from 1; 0 where the sheet is too long.
+        line: u32,
+        /// That line, with what is not printed escaped as in Rust, and cut where it is long.
+        text: Option<String>,
+        /// The rule that it breaks, and what to do.
+        rule: Option<String>,
+        /// Whether the call had no other sheet.
+        only: bool,
+    },
+    /// The destination sheet is faulty.
+    #[non_exhaustive]
+    Destination {
+        /// As of [`Error::Source`].
+        line: u32,
+        /// As of [`Error::Source`].
+        text: Option<String>,
+        /// As of [`Error::Source`].
+        rule: Option<String>,
+    },
+    /// No path runs from the source type to the destination type.
+    #[non_exhaustive]
+    Path {
+        /// The member that has none, as `boost[0]`; empty for the record itself.
+        member: Option<String>,
+        /// Why, as "is an int in the source and bits in the destination", and what to do.
+        why: Option<String>,
+    },
+    /// More than 65,536 records in one call.
     Count,
     /// A buffer is too short.
-    Room,
-    /// The first leaf that does not fit, where handling is stop: its record, its first byte in the destination record, and why.
-    Stop { record: u32, at: u32, kind: Kind },
+    #[non_exhaustive]
+    Room {
+        /// The first one that is.
+        short: Option<Short>,
+    },
+    /// Handling is stop, and a number does not fit.
+    #[non_exhaustive]
+    Stop {
+        /// The first record that has one, from 0; of a log, counted from the log's start.
+        record: u64,
+        /// The first byte of the first such leaf, in its destination record.
+        at: u32,
+        /// Why it does not fit.
+        kind: Kind,
+        /// The leaf's name, as `boost[1]`; empty where the record itself is the leaf.
+        member: Option<String>,
+    },
     /// A setter's argument or result is outside its rule, or the layout was.
     Range,
+    /// A refusal that this version of the crate does not know.
+    #[non_exhaustive]
+    Unknown {
+        /// Its number.
+        number: u32,
+        /// The answer's eight words, as include/yirvagul.h has them; of a setter, the number alone.
+        answer: [u64; 8],
+    },
 }
 
 impl Error {
@@ -44,34 +181,90 @@ impl Error {
             Error::Table => 2,
             Error::Source { .. } => 3,
             Error::Destination { .. } => 4,
-            Error::Path => 5,
+            Error::Path { .. } => 5,
             Error::Count => 6,
-            Error::Room => 7,
+            Error::Room { .. } => 7,
             Error::Stop { .. } => 8,
             Error::Range => 9,
+            Error::Unknown { number, .. } => *number,
         }
     }
 
-    /// Its name there.
+    /// Its name there, in capitals; `UNKNOWN` for [`Error::Unknown`].
     pub fn name(&self) -> &'static str {
         match self {
             Error::Handling => "HANDLING",
             Error::Table => "TABLE",
             Error::Source { .. } => "SOURCE",
             Error::Destination { .. } => "DESTINATION",
-            Error::Path => "PATH",
+            Error::Path { .. } => "PATH",
             Error::Count => "COUNT",
-            Error::Room => "ROOM",
+            Error::Room { .. } => "ROOM",
             Error::Stop { .. } => "STOP",
             Error::Range => "RANGE",
+            Error::Unknown { .. } => "UNKNOWN",
+        }
+    }
+
+    /// What an answer's words say by themselves. Their fields fit 32 bits.
+    pub(crate) fn from_answer(answer: Answer) -> Error {
+        let [number, _, line, record, at, kind, ..] = answer;
+        let (line, at) = (line as u32, at as u32);
+        let (text, rule, member, why, short) = (None, None, None, None, None);
+        match number {
+            1 => Error::Handling,
+            2 => Error::Table,
+            3 => Error::Source {
+                line,
+                text,
+                rule,
+                only: false,
+            },
+            4 => Error::Destination { line, text, rule },
+            5 => Error::Path { member, why },
+            6 => Error::Count,
+            7 => Error::Room { short },
+            8 => Error::Stop {
+                record,
+                at,
+                kind: Kind::from_number(kind),
+                member,
+            },
+            9 => Error::Range,
+            _ => Error::Unknown {
+                number: number as u32,
+                answer,
+            },
         }
     }
 }
 
-fn faulty(f: &mut fmt::Formatter, line: u32, sheet: &str) -> fmt::Result {
+fn faulty(
+    f: &mut fmt::Formatter,
+    sheet: &str,
+    line: u32,
+    text: &Option<String>,
+    rule: &Option<String>,
+) -> fmt::Result {
     match line {
-        0 => write!(f, "the {sheet} sheet is too long: keep it within 16,384 bytes"),
-        _ => write!(f, "line {line} of the {sheet} sheet is faulty: correct it by the rules of sheets and the lines before it"),
+        0 => write!(f, "the {sheet} is faulty")?,
+        _ => write!(f, "line {line} of the {sheet} is faulty")?,
+    }
+    if let Some(text) = text {
+        write!(f, ", `{text}`")?;
+    }
+    match (rule, line) {
+        (Some(rule), _) => write!(f, ": {rule}"),
+        (None, 0) => f.write_str(": keep it within 16,384 bytes"),
+        (None, _) => f.write_str(": correct it by the rules of sheets and the lines before it"),
+    }
+}
+
+/// A member's name in quotes, or the record itself.
+fn named(member: &str) -> String {
+    match member {
+        "" => "the record".into(),
+        _ => format!("`{member}`"),
     }
 }
 
@@ -81,47 +274,22 @@ impl fmt::Display for Error {
         match self {
             Error::Handling => f.write_str("handling is neither 0 (clamp) nor 1 (stop): pass one of them"),
             Error::Table => f.write_str("the working table is too short: lend at least 8,192 words"),
-            Error::Source { line } => faulty(f, *line, "source"),
-            Error::Destination { line } => faulty(f, *line, "destination"),
-            Error::Path => f.write_str("no path from the source type to the destination type: give members of one name the same class, and arrays as many elements"),
-            Error::Count => f.write_str("more than 65,536 records: convert them in parts"),
-            Error::Room => f.write_str("a buffer is too short for that many records, or for the list: lend a longer one"),
-            Error::Stop { record, at, kind } => {
-                let why = match kind {
-                    Kind::Above => "is above the destination's range: widen it, or clamp",
-                    Kind::Below => "is below the destination's range: widen it, or clamp",
-                    Kind::NoSymbol => "has no symbol in both enums: add it to them, or clamp",
-                };
-                write!(f, "the number for byte {at} of record {record} {why}")
-            }
+            Error::Source { line, text, rule, only: true } => faulty(f, "sheet", *line, text, rule),
+            Error::Source { line, text, rule, .. } => faulty(f, "source sheet", *line, text, rule),
+            Error::Destination { line, text, rule } => faulty(f, "destination sheet", *line, text, rule),
+            Error::Path { member: Some(member), why: Some(why) } => write!(f, "no path from the source type to the destination type: {} {why}", named(member)),
+            Error::Path { .. } => f.write_str("no path from the source type to the destination type: give members of one name the same class, and arrays as many elements"),
+            Error::Count => f.write_str("more than 65,536 records in one call: convert them in parts, as convert_log does"),
+            Error::Room { short: Some(Short { buffer, holds, needs }) } => write!(f, "the {buffer} is too short: it holds {holds} bytes and needs {needs}: lend a longer one"),
+            Error::Room { .. } => f.write_str("a buffer is too short for that many records, or for the list: lend a longer one"),
+            Error::Stop { record, at, kind, member } => match member.as_deref() {
+                None | Some("") => write!(f, "record {record}, byte {at}: {kind}"),
+                Some(member) => write!(f, "record {record}, `{member}` at byte {at}: {kind}"),
+            },
             Error::Range => f.write_str("the argument or the layout breaks the rules of a layout: size 1 to 8 bytes, precision 1 to 64 bits, offset + precision within the size, no sign on bits"),
+            Error::Unknown { answer, .. } => write!(f, "a refusal that this version does not know, with the words {answer:?}: use a newer wrapper"),
         }
     }
 }
 
 impl std::error::Error for Error {}
-
-/// What a call's words say: its count, or its refusal. Their fields fit 32 bits.
-pub(crate) fn outcome(answer: Answer) -> Result<u64, Error> {
-    let [number, count, line, record, at, kind, ..] = answer;
-    let (line, record, at) = (line as u32, record as u32, at as u32);
-    match number {
-        0 => Ok(count),
-        1 => Err(Error::Handling),
-        2 => Err(Error::Table),
-        3 => Err(Error::Source { line }),
-        4 => Err(Error::Destination { line }),
-        5 => Err(Error::Path),
-        6 => Err(Error::Count),
-        7 => Err(Error::Room),
-        8 => {
-            let kind = match kind {
-                1 => Kind::Above,
-                2 => Kind::Below,
-                _ => Kind::NoSymbol,
-            };
-            Err(Error::Stop { record, at, kind })
-        }
-        _ => Err(Error::Range),
-    }
-}

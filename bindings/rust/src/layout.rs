@@ -2,44 +2,81 @@
 use crate::raw::{self, Words};
 use crate::Error;
 
-#[derive(Clone, Copy, Debug, PartialEq, Eq)]
+/// The class of an atomic layout.
+#[derive(Clone, Copy, Debug, PartialEq, Eq, Hash)]
 pub enum Class {
+    /// A number, with a sign or without.
     Int,
+    /// A bitfield: an unsigned number.
     Bits,
 }
 
 /// Which end of a container its lowest byte is at: the lowest address (LE) or the highest (BE).
-#[derive(Clone, Copy, Debug, PartialEq, Eq)]
+#[derive(Clone, Copy, Debug, PartialEq, Eq, Hash)]
 pub enum Order {
+    /// Little-endian.
     LE,
+    /// Big-endian.
     BE,
 }
 
-/// What a write puts beside the significant bits: zeros, ones, or the background's own bits.
-#[derive(Clone, Copy, Debug, PartialEq, Eq)]
+/// What a write puts beside the significant bits.
+#[derive(Clone, Copy, Debug, PartialEq, Eq, Hash)]
 pub enum Pad {
+    /// Zeros.
     Zero,
+    /// Ones.
     One,
+    /// The background's own bits.
     Keep,
 }
 
-/// Of a bits layout, `Unsigned`.
-#[derive(Clone, Copy, Debug, PartialEq, Eq)]
+/// How the number is read from its bits.
+#[derive(Clone, Copy, Debug, PartialEq, Eq, Hash)]
 pub enum Sign {
+    /// From 0 up; so is every bits layout.
     Unsigned,
+    /// Two's complement.
     Signed,
 }
 
-/// Size in bytes, offset and precision in bits.
-#[derive(Clone, Copy, Debug, PartialEq, Eq)]
+/// A layout of an int or bits type. A setter that refuses it leaves it as it was.
+///
+/// ```
+/// use yirvagul::{Class, Error, Layout, Order, Pad, Sign};
+///
+/// let mut pressure = Layout {
+///     class: Class::Int,
+///     size: 2,
+///     order: Order::BE,
+///     offset: 4,
+///     precision: 12,
+///     lsb: Pad::Zero,
+///     msb: Pad::Zero,
+///     sign: Sign::Unsigned,
+/// };
+/// pressure.set_precision(20)?;
+/// assert_eq!((pressure.size, pressure.offset), (3, 0));
+/// assert_eq!(pressure.set_size(9), Err(Error::Range));
+/// # Ok::<(), Error>(())
+/// ```
+#[derive(Clone, Copy, Debug, PartialEq, Eq, Hash)]
 pub struct Layout {
+    /// Int or bits.
     pub class: Class,
+    /// The container's bytes, 1 to 8.
     pub size: u32,
+    /// The container's byte order.
     pub order: Order,
+    /// The number's lowest bit; offset + precision is at most 8 × size.
     pub offset: u32,
+    /// The number's bits, 1 to 64.
     pub precision: u32,
+    /// The bits below the number.
     pub lsb: Pad,
+    /// The bits above the number.
     pub msb: Pad,
+    /// The number's sign; of a bits layout, [`Sign::Unsigned`].
     pub sign: Sign,
 }
 
@@ -60,8 +97,9 @@ impl Layout {
     /// Runs a setter on the words. The setters change no class, and give codes for codes.
     fn edit(&mut self, setter: impl FnOnce(&mut Words) -> u32) -> Result<(), Error> {
         let mut w = self.words();
-        if setter(&mut w) != 0 {
-            return Err(Error::Range);
+        let number = setter(&mut w);
+        if number != 0 {
+            return Err(Error::from_answer([number.into(), 0, 0, 0, 0, 0, 0, 0]));
         }
         let pad = |code| [Pad::Zero, Pad::One, Pad::Keep][code as usize];
         *self = Layout {
@@ -77,30 +115,32 @@ impl Layout {
         Ok(())
     }
 
-    /// 1 to 8 bytes. Precision and offset shrink to what the size holds.
+    /// Another size, 1 to 8 bytes. Precision and offset shrink to what the size holds.
     pub fn set_size(&mut self, size: u32) -> Result<(), Error> {
         self.edit(|w| raw::set_size(w, size))
     }
 
+    /// Another byte order.
     pub fn set_order(&mut self, order: Order) -> Result<(), Error> {
         self.edit(|w| raw::set_order(w, order as u32))
     }
 
-    /// 1 to 64 bits. Where it no longer fits at its offset, the offset moves down and the size grows.
+    /// Another precision, 1 to 64 bits. Where it no longer fits at its offset, the offset moves down and the size grows.
     pub fn set_precision(&mut self, precision: u32) -> Result<(), Error> {
         self.edit(|w| raw::set_precision(w, precision))
     }
 
-    /// The size grows to hold the moved bits; refused if it would pass 8.
+    /// Another offset. The size grows to hold the moved bits; refused if it would pass 8.
     pub fn set_offset(&mut self, offset: u32) -> Result<(), Error> {
         self.edit(|w| raw::set_offset(w, offset))
     }
 
+    /// Other pads, of the bits below the number and of those above it.
     pub fn set_pads(&mut self, lsb: Pad, msb: Pad) -> Result<(), Error> {
         self.edit(|w| raw::set_pads(w, lsb as u32, msb as u32))
     }
 
-    /// Refused on a bits layout.
+    /// Another sign. Refused on a bits layout.
     pub fn set_sign(&mut self, sign: Sign) -> Result<(), Error> {
         self.edit(|w| raw::set_sign(w, sign as u32))
     }

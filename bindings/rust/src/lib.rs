@@ -1,17 +1,45 @@
 //! Converts records of instrument logs from one binary layout to another, lists a layout's leaves, and edits atomic layouts.
 //!
-//! A safe wrapper over libcapi.a, whose calls are proved: include/yirvagul.h says what each does. All unsafe code is in one module, `raw`.
-#![deny(unsafe_code)]
+//! A layout sheet is text: lines ended by byte 10, fields parted by one tab. Here two pressures of 12 bits become whole 16-bit numbers:
+//!
+//! ```
+//! use yirvagul::{convert_copying, Handling};
+//!
+//! let rig = b"int\t2\tBE\t4\t12\tzero\tzero\tunsigned\n";
+//! let plain = b"int\t2\tLE\t0\t16\tzero\tzero\tunsigned\n";
+//! let mut out = [0; 4];
+//! let exceptions = convert_copying(rig, plain, 2, Handling::Stop, b"\x06\x40\x7d\x00", &mut out)?;
+//! assert_eq!(exceptions, 0);
+//! assert_eq!(out, [100, 0, 0xd0, 0x07]); // 100 and 2000
+//! # Ok::<(), yirvagul::Error>(())
+//! ```
+//!
+//! - [`convert_copying`] and [`convert_in_place`] convert up to 65,536 records in one call, and [`convert_log`] a log of any length.
+//! - [`leaf_list`] says where a sheet's numbers lie, [`record_size`] how many bytes its record has.
+//! - [`Layout`] is the layout of one number, with setters.
+//! - A refused call gives an [`Error`], which says what is wrong, where, and what to do.
+//!
+//! This is a safe wrapper over libcapi.a, whose calls are proved; include/yirvagul.h says what each does. All unsafe code is in one module. A call allocates
+//! nothing and keeps nothing, takes at most [`STACK_BYTES`] of its thread's stack, and any number of threads can make calls at once.
+#![deny(unsafe_code, missing_docs, missing_debug_implementations)]
 
 mod error;
+mod explain;
 mod layout;
+mod log;
 #[allow(unsafe_code)]
 mod raw;
+mod sheet;
 #[cfg(test)]
 mod tests;
 
-pub use error::{Error, Kind};
+pub use error::{Buffer, Error, Kind, Short};
+use explain::Call;
 pub use layout::{Class, Layout, Order, Pad, Sign};
+pub use log::{
+    convert_log, convert_log_parts, Input, LogConverter, LogError, Output, Part, Parts, Progress,
+    ReadSeek, Totals,
+};
 use raw::Sheets;
 
 /// The words that the working table needs.
@@ -20,8 +48,14 @@ pub const TABLE_WORDS: usize = 8192;
 /// A buffer of this many bytes holds the leaf list of any sheet.
 pub const LIST_BYTES: usize = 14 + 4096 * 12;
 
+/// The most bytes that any call takes of its thread's stack.
+pub const STACK_BYTES: usize = 163_840;
+
+/// The most that a call takes where the destination record has at most 128 bytes.
+pub const SMALL_STACK_BYTES: usize = 49_152;
+
 /// What to do with numbers that do not fit.
-#[derive(Clone, Copy, Debug, PartialEq, Eq)]
+#[derive(Clone, Copy, Debug, PartialEq, Eq, Hash)]
 pub enum Handling {
     /// Write the nearest that fits, and count it.
     Clamp,
@@ -29,7 +63,22 @@ pub enum Handling {
     Stop,
 }
 
-/// The calls over one working table, which is kept between them.
+/// The calls over one working table, which is kept between them. The functions of the same names make a table for each call.
+///
+/// ```
+/// use yirvagul::{Converter, Handling};
+///
+/// let byte = b"int\t1\tLE\t0\t8\tzero\tzero\tunsigned\n";
+/// let pair = b"int\t2\tBE\t0\t16\tzero\tzero\tunsigned\n";
+/// let mut converter = Converter::new();
+/// for number in 0..3 {
+///     let mut out = [0; 2];
+///     converter.convert_copying(byte, pair, 1, Handling::Stop, &[number], &mut out)?;
+///     assert_eq!(out, [0, number]);
+/// }
+/// # Ok::<(), yirvagul::Error>(())
+/// ```
+#[derive(Clone, Debug)]
 pub struct Converter {
     table: Vec<u32>,
 }
@@ -41,6 +90,7 @@ impl Default for Converter {
 }
 
 impl Converter {
+    /// With a table of [`TABLE_WORDS`] words.
     pub fn new() -> Self {
         Converter::default()
     }
@@ -50,7 +100,8 @@ impl Converter {
         Converter { table }
     }
 
-    /// Converts count records of source into destination, whose own bytes are the background. Gives how many leaves raised an exception.
+    /// Converts count records of source into destination, whose own bytes are the background: bits that no matched leaf fixes stay, and so do pads that are
+    /// `keep`. Gives how many leaves raised an exception. Bytes behind the count records stay.
     pub fn convert_copying(
         &mut self,
         source_sheet: &[u8],
@@ -62,13 +113,9 @@ impl Converter {
     ) -> Result<u64, Error> {
         let sheets = sheets(source_sheet, destination_sheet, count);
         let table = &mut self.table;
-        error::outcome(raw::convert_copying(
-            &sheets,
-            handling as u32,
-            source,
-            destination,
-            table,
-        ))
+        let answer = raw::convert_copying(&sheets, handling as u32, source, destination, table);
+        let call = Call::Copying(&sheets, source.len(), destination.len());
+        explain::outcome(answer, &call, table)
     }
 
     /// The same with [`Handling::Clamp`].
@@ -82,15 +129,14 @@ impl Converter {
     ) -> Result<u64, Error> {
         let sheets = sheets(source_sheet, destination_sheet, count);
         let table = &mut self.table;
-        error::outcome(raw::convert_copying_plain(
-            &sheets,
-            source,
-            destination,
-            table,
-        ))
+        let answer = raw::convert_copying_plain(&sheets, source, destination, table);
+        let call = Call::Copying(&sheets, source.len(), destination.len());
+        explain::outcome(answer, &call, table)
     }
 
-    /// Converts count records where they lie; the background gives the bits that no matched leaf fixes.
+    /// Converts count records where they lie; the background gives the bits that no matched leaf fixes. With S and D for the sizes of a source and a
+    /// destination record, the buffer has count × max(S, D) bytes at least, the background count × D. Afterwards bytes up to count × D are the converted
+    /// records, those up to count × S (if S is larger) are zero, and later ones stay.
     pub fn convert_in_place(
         &mut self,
         source_sheet: &[u8],
@@ -102,13 +148,9 @@ impl Converter {
     ) -> Result<u64, Error> {
         let sheets = sheets(source_sheet, destination_sheet, count);
         let table = &mut self.table;
-        error::outcome(raw::convert_in_place(
-            &sheets,
-            handling as u32,
-            buffer,
-            background,
-            table,
-        ))
+        let answer = raw::convert_in_place(&sheets, handling as u32, buffer, background, table);
+        let call = Call::InPlace(&sheets, buffer.len(), background.len());
+        explain::outcome(answer, &call, table)
     }
 
     /// The same with [`Handling::Clamp`].
@@ -122,14 +164,16 @@ impl Converter {
     ) -> Result<u64, Error> {
         let sheets = sheets(source_sheet, destination_sheet, count);
         let table = &mut self.table;
-        error::outcome(raw::convert_in_place_plain(
-            &sheets, buffer, background, table,
-        ))
+        let answer = raw::convert_in_place_plain(&sheets, buffer, background, table);
+        let call = Call::InPlace(&sheets, buffer.len(), background.len());
+        explain::outcome(answer, &call, table)
     }
 
-    /// Writes the leaf list of a sheet into a buffer, and gives its length.
+    /// Writes the leaf list of a sheet into a buffer, and gives its length. Bytes past it stay. [`LIST_BYTES`] are enough for any sheet.
     pub fn leaf_list_into(&mut self, sheet: &[u8], list: &mut [u8]) -> Result<usize, Error> {
-        error::outcome(raw::leaf_list(sheet, list, &mut self.table)).map(|len| len as usize)
+        let answer = raw::leaf_list(sheet, list, &mut self.table);
+        let call = Call::List(sheet, list.len());
+        explain::outcome(answer, &call, &mut self.table).map(|len| len as usize)
     }
 
     /// The leaf list of a sheet: a header, then a line for each leaf, in byte order.
@@ -137,6 +181,12 @@ impl Converter {
         let mut list = vec![0; LIST_BYTES];
         let len = self.leaf_list_into(sheet, &mut list)?;
         Ok(String::from_utf8_lossy(&list[..len]).into_owned())
+    }
+
+    /// The size of a sheet's record in bytes, 1 to 4,096.
+    pub fn record_size(&mut self, sheet: &[u8]) -> Result<usize, Error> {
+        let answer = raw::record_size(sheet, &mut self.table);
+        explain::outcome(answer, &Call::Size(sheet), &mut self.table).map(|size| size as usize)
     }
 }
 
@@ -149,6 +199,20 @@ fn sheets<'a>(source: &'a [u8], destination: &'a [u8], count: u64) -> Sheets<'a>
 }
 
 /// [`Converter::convert_copying`] with a table of its own.
+///
+/// ```
+/// use yirvagul::{convert_copying, Error, Handling, Kind};
+///
+/// let byte = b"int\t1\tLE\t0\t8\tzero\tzero\tunsigned\n";
+/// let signed = b"int\t1\tLE\t0\t8\tzero\tzero\tsigned\n";
+/// let mut out = [0; 2];
+/// // 255 is above the range of a signed byte
+/// let error = convert_copying(byte, signed, 2, Handling::Stop, &[5, 255], &mut out).unwrap_err();
+/// assert!(matches!(error, Error::Stop { record: 1, at: 0, kind: Kind::Above, .. }));
+/// assert_eq!(out, [0; 2]);
+/// assert_eq!(convert_copying(byte, signed, 2, Handling::Clamp, &[5, 255], &mut out), Ok(1));
+/// assert_eq!(out, [5, 127]);
+/// ```
 pub fn convert_copying(
     source_sheet: &[u8],
     destination_sheet: &[u8],
@@ -186,6 +250,17 @@ pub fn convert_copying_plain(
 }
 
 /// [`Converter::convert_in_place`] with a table of its own.
+///
+/// ```
+/// use yirvagul::{convert_in_place, Handling};
+///
+/// let byte = b"int\t1\tLE\t0\t8\tzero\tzero\tunsigned\n";
+/// let pair = b"int\t2\tBE\t0\t16\tzero\tzero\tunsigned\n";
+/// let mut buffer = [0x0a, 0x0b, 0x77, 0x77];
+/// convert_in_place(byte, pair, 2, Handling::Stop, &mut buffer, &[0; 4])?;
+/// assert_eq!(buffer, [0, 0x0a, 0, 0x0b]);
+/// # Ok::<(), yirvagul::Error>(())
+/// ```
 pub fn convert_in_place(
     source_sheet: &[u8],
     destination_sheet: &[u8],
@@ -223,6 +298,23 @@ pub fn convert_in_place_plain(
 }
 
 /// [`Converter::leaf_list`] with a table of its own.
+///
+/// ```
+/// let sheet = b"bits\t1\tLE\t0\t8\tzero\tzero\narray\t0\t2\n";
+/// assert_eq!(yirvagul::leaf_list(sheet)?, "at\tsize\tclass\n0\t1\tbits\n1\t1\tbits\n");
+/// # Ok::<(), yirvagul::Error>(())
+/// ```
 pub fn leaf_list(sheet: &[u8]) -> Result<String, Error> {
     Converter::new().leaf_list(sheet)
+}
+
+/// [`Converter::record_size`] with a table of its own.
+///
+/// ```
+/// let sheet = b"bits\t1\tLE\t0\t8\tzero\tzero\ncomp\t12\nmember\tflags\t3\t0\n";
+/// assert_eq!(yirvagul::record_size(sheet)?, 12);
+/// # Ok::<(), yirvagul::Error>(())
+/// ```
+pub fn record_size(sheet: &[u8]) -> Result<usize, Error> {
+    Converter::new().record_size(sheet)
 }

@@ -75,6 +75,13 @@ mod c {
             table_len: usize,
             answer: *mut u64,
         ) -> u32;
+        pub fn yirvagul_record_size(
+            sheet: *const u8,
+            sheet_len: usize,
+            table: *mut u32,
+            table_len: usize,
+            answer: *mut u64,
+        ) -> u32;
         pub fn yirvagul_set_size(layout: *mut u32, size: u32) -> u32;
         pub fn yirvagul_set_order(layout: *mut u32, order: u32) -> u32;
         pub fn yirvagul_set_precision(layout: *mut u32, precision: u32) -> u32;
@@ -212,6 +219,21 @@ pub fn leaf_list(sheet: &[u8], list: &mut [u8], table: &mut [u32]) -> Answer {
             sheet.len(),
             list.as_mut_ptr(),
             list.len(),
+            table.as_mut_ptr(),
+            table.len(),
+            answer.as_mut_ptr(),
+        );
+    }
+    answer
+}
+
+pub fn record_size(sheet: &[u8], table: &mut [u32]) -> Answer {
+    let mut answer = [0; 8];
+    // SAFETY: each pointer is a slice's, with that slice's length.
+    unsafe {
+        c::yirvagul_record_size(
+            sheet.as_ptr(),
+            sheet.len(),
             table.as_mut_ptr(),
             table.len(),
             answer.as_mut_ptr(),

@@ -1,22 +1,18 @@
 -- A call of the library whose answer is given to C is a call for C. Assumes nothing.
-use mathlib.Core.Path.{_≡_, sym, ap, _∙_}
+use mathlib.Core.Path.{_≡_, subst}
 use mathlib.Core.List.{List}
 use Prim.Native.Nat.{ℕ}
 use Rattle.answer.specs.declared.Answer.{Answer}
-use Rattle.answer.specs.Answer.{numberOf}
-use Rattle.runs.specs.Run.{Run, answer, after, tableAfter}
-use Rattle.runs.specs.Run.{Answers}
-use Rattle.capi.specs.Calls.{wordsOf, Gives, Called, Converts}
+use Rattle.runs.specs.Run.{Run, answer, after, tableAfter, Answers}
+use Rattle.capi.specs.Calls.{Gives, Answered, Called, Converts}
 
-pub carried : {a b : Answer} {left lent out table words : List ℕ} {r : ℕ} → b ≡ a → out ≡ left → table ≡ tableAfter b lent → Gives b r words → Called a left lent r words out table
-carried {lent = lent} e o t g =
-    record {
-      number = g .number ∙ ap (λ (x : Answer). numberOf x) e;
-      written = g .written ∙ ap (λ (x : Answer). wordsOf x) e;
-      leaves = o;
-      clears = t ∙ ap (λ (x : Answer). tableAfter x lent) e;
-    }
+module _ {a b : Answer} {lent table words : List ℕ} {r : ℕ} (e : b ≡ a) (t : table ≡ tableAfter b lent) (g : Gives b r words) where
+  pub answered : Answered a lent r words table
+  answered = subst (λ (x : Answer). Answered x lent r words table) e record { gives = g; clears = t }
+
+  pub carried : {left out : List ℕ} → out ≡ left → Called a left lent r words out table
+  carried o = record { answered = answered; leaves = o }
 
 -- all four converting forms
 pub converted : {run : Run} {a : Answer} {out table words : List ℕ} {r : ℕ} → Answers run a out table → Gives a r words → Converts run r words out table
-converted h g = carried (h .answers) (h .leaves) (h .clears) g
+converted h g = carried (h .answers) (h .clears) g (h .leaves)

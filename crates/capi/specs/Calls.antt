@@ -1,4 +1,4 @@
--- The converting calls and the leaf list with numbers for their answer: what each returns, and every word and byte that it leaves.
+-- The calls that read sheets, with numbers for their answer: what each returns, and every word and byte that it leaves.
 use mathlib.Core.Path.{_≡_}
 use mathlib.Core.List.{List, [], _∷_}
 use Prim.Native.Nat.{ℕ}
@@ -16,12 +16,15 @@ pub record Gives (a : Answer) (r : ℕ) (words : List ℕ) : Type 0 where
   pub number : r ≡ numberOf a
   pub written : words ≡ wordsOf a
 
--- a call that answers a and leaves its buffer as `left` and the table as every call leaves it: the returned number, the answer's words, the buffer, the table
-pub record Called (a : Answer) (left lent : List ℕ) (r : ℕ) (words out table : List ℕ) : Type 0 where
-  pub number : r ≡ numberOf a
-  pub written : words ≡ wordsOf a
-  pub leaves : out ≡ left
+-- a call that answers a, and leaves the table as every call leaves it
+pub record Answered (a : Answer) (lent : List ℕ) (r : ℕ) (words table : List ℕ) : Type 0 where
+  pub gives : Gives a r words
   pub clears : table ≡ tableAfter a lent
+
+-- such a call that has a buffer too, and leaves it as `left`
+pub record Called (a : Answer) (left lent : List ℕ) (r : ℕ) (words out table : List ℕ) : Type 0 where
+  pub answered : Answered a lent r words table
+  pub leaves : out ≡ left
 
 -- a call of a converting form
 abbrev pub Converts : Run → ℕ → List ℕ → List ℕ → List ℕ → Type 0

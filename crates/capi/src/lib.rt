@@ -1,8 +1,9 @@
 // The calls for C: an answer and a layout are eight words each, lent by one pointer; a slice is a pointer and a length.
 ghost use lib.ListN.{length};
 ghost use Rattle.runs.specs.Run.{copyingRun, inPlaceRun, plain};
-ghost use Rattle.leaves.specs.LeafList.{answerOf, listAfter};
-ghost use Rattle.capi.specs.Calls.{Gives, Called, Converts};
+ghost use Rattle.leaves.specs.LeafList.{answerOf as listAnswerOf, listAfter};
+ghost use Rattle.record_size.specs.RecordSize.{answerOf as sizeAnswerOf};
+ghost use Rattle.capi.specs.Calls.{Gives, Answered, Called, Converts};
 use answer::Answer;
 use answer::number_of;
 use answer::values_of;
@@ -137,8 +138,17 @@ pub extern "C" fn yirvagul_leaf_list(
     table: &mut [u32],
     words: &mut [u64; 8],
 ) -> u32
-    ensures { λ r. ⌜ Called (answerOf (now (sheet .entry)) (length (now (list .entry))) (length (now (table .entry)))) (listAfter (now (sheet .entry)) (now (list .entry)) (length (now (table .entry)))) (now (table .entry)) r (now (words .exit)) (now (list .exit)) (now (table .exit)) ⌝ }
+    ensures { λ r. ⌜ Called (listAnswerOf (now (sheet .entry)) (length (now (list .entry))) (length (now (table .entry)))) (listAfter (now (sheet .entry)) (now (list .entry)) (length (now (table .entry)))) (now (table .entry)) r (now (words .exit)) (now (list .exit)) (now (table .exit)) ⌝ }
 {
     let a = leaves::leaf_list(sheet, list, table);
+    give(a, words)
+}
+
+// Answers the size of one record of a sheet's type.
+#[no_mangle]
+pub extern "C" fn yirvagul_record_size(sheet: &[u8], table: &mut [u32], words: &mut [u64; 8]) -> u32
+    ensures { λ r. ⌜ Answered (sizeAnswerOf (now (sheet .entry)) (length (now (table .entry)))) (now (table .entry)) r (now (words .exit)) (now (table .exit)) ⌝ }
+{
+    let a = record_size::record_size(sheet, table);
     give(a, words)
 }

@@ -8,7 +8,7 @@ use borrow.Author.Needs.{needs}
 use borrow.Author.Tests.{le-leb, lt-leb}
 use lib.Dec.{leb}
 use lib.ListN.{length, drop, replicate, length-append}
-use lib.Seq.{drop-at, drop-drop, paste}
+use lib.Seq.{paste}
 use Rattle.answer.specs.declared.Answer.{Answer}
 use Rattle.answer.specs.declared.Answer.the-variants.{Done, Table, Source, Room}
 use Rattle.datatype.specs.Datatype.{Datatype, size}
@@ -23,6 +23,7 @@ use Rattle.sheet.specs.Sheet.Sheet.{ofType, faultyAt}
 use Rattle.sheet.specs.Read.{ReadsSheet}
 use Rattle.sheet.proofs.Types.{sheet-fault, sheet-type, type-formed}
 use Rattle.runs.specs.Run.{cleared, tableAfter}
+use Rattle.runs.proofs.Table.{half-cleared}
 use Rattle.leaves.specs.LeafList.{leafLines, leafList, listAnswer, answerOf, listAfter}
 use Rattle.leaves.specs.Lines.{header, written, Wrote, Lists}
 use Rattle.leaves.proofs.Writing.{written-is, written-append, wrote}
@@ -121,12 +122,8 @@ list-clears (ofType T) n t = go (leb (length (leafList T)) n)
     go true = refl
     go false = refl
 
-beyond : (n m : ℕ) (e t : List ℕ) → length e ≡ n → drop (n + m) (e ++ drop n t) ≡ drop (n + m) t
-beyond n m e t h = sym (drop-drop m n (e ++ drop n t)) ∙ ap (λ (l : List ℕ). drop m l) (drop-at e (drop n t) n h) ∙ drop-drop m n t
-
 -- the first half came back as e, and then all was cleared
 pub table-done : (t e s : List ℕ) {d f : List ℕ} {r : Answer} → Lists (sheetOf s) d f r → length e ≡ 4096
     → replicate 8192 0 ++ drop 8192 (e ++ drop 4096 t) ≡ tableAfter r t
-unfolding cleared
 table-done t e s {d} lists h =
-    ap (λ (l : List ℕ). replicate 8192 0 ++ l) (beyond 4096 4096 e t h) ∙ sym (ap (λ (a : Answer). tableAfter a t) (lists .answer) ∙ list-clears (sheetOf s) (length d) t)
+    half-cleared t e h ∙ sym (ap (λ (a : Answer). tableAfter a t) (lists .answer) ∙ list-clears (sheetOf s) (length d) t)

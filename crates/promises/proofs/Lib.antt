@@ -1,2 +1,3 @@
 pub mod Exercises
 pub mod Promises
+pub mod Demand1

@@ -1,11 +1,11 @@
 -- The working table after a call. Assumes nothing.
-use mathlib.Core.Path.{_≡_, refl}
+use mathlib.Core.Path.{_≡_, refl, sym, ap, _∙_}
 use mathlib.Core.Logic.{_⊎_, inl, inr}
 use mathlib.Core.List.{List, _++_}
-use Prim.Native.Nat.{ℕ, _≤_}
+use Prim.Native.Nat.{ℕ, _+_, _≤_}
 use native.Mathlib.Omega.{arith}
 use lib.ListN.{length, take, drop, replicate, length-append, length-drop, length-replicate}
-use lib.Seq.{take-at, drop-at}
+use lib.Seq.{take-at, drop-at, drop-drop}
 use Rattle.answer.specs.declared.Answer.{Answer}
 use Rattle.answer.specs.declared.Answer.the-variants.{Done, Handling, Table, Source, Destination, Path, Count, Room, Stop, Range}
 use Rattle.answer.specs.Answer.{numberOf}
@@ -35,6 +35,14 @@ module _ (t : List ℕ) where
   pub cleared-length : 8192 ≤ length t → length (cleared t) ≡ length t
   unfolding cleared
   cleared-length h = same-length 8192 t h
+
+  beyond : (n m : ℕ) (e : List ℕ) → length e ≡ n → drop (n + m) (e ++ drop n t) ≡ drop (n + m) t
+  beyond n m e h = sym (drop-drop m n (e ++ drop n t)) ∙ ap (λ (l : List ℕ). drop m l) (drop-at e (drop n t) n h) ∙ drop-drop m n t
+
+  -- the first half came back as e, and then all was cleared
+  pub half-cleared : (e : List ℕ) → length e ≡ 4096 → replicate 8192 0 ++ drop 8192 (e ++ drop 4096 t) ≡ cleared t
+  unfolding cleared
+  half-cleared e h = ap (λ (l : List ℕ). replicate 8192 0 ++ l) (beyond 4096 4096 e h)
 
 -- ---- after which answers
 

@@ -17,7 +17,9 @@ same-length-2 : tie.Need-same-length-2
 same-length-2 c = search needs
 
 returns : tie.Need-returns
-returns c = carried (c .before .before .before .before .before .before .leaf-list .ensures .0) (c .before .before .before .before .before .before .leaf-list .ensures .1 .0) (c .before .before .before .before .before .before .leaf-list .ensures .1 .1) (c .give .ensures)
+returns c =
+    let e = c .before .before .before .before .before .before .leaf-list .ensures in
+    carried (e .0) (e .1 .1) (c .give .ensures) (e .1 .0)
 
 pub yirvagul-leaf-list-spec : {M : Type 1} → statement M
 yirvagul-leaf-list-spec =

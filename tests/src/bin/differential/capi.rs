@@ -31,6 +31,8 @@ unsafe extern "C" {
         table: *mut u32, table_len: usize, answer: *mut Answer) -> u32;
     fn yirvagul_leaf_list(sheet: *const u8, sheet_len: usize, list: *mut u8, list_len: usize,
         table: *mut u32, table_len: usize, answer: *mut Answer) -> u32;
+    fn yirvagul_record_size(sheet: *const u8, sheet_len: usize,
+        table: *mut u32, table_len: usize, answer: *mut Answer) -> u32;
     fn yirvagul_set_size(layout: *mut Words, size: u32) -> u32;
     fn yirvagul_set_order(layout: *mut Words, order: u32) -> u32;
     fn yirvagul_set_precision(layout: *mut Words, precision: u32) -> u32;
@@ -43,16 +45,24 @@ fn bytes(random: &mut Random, content: &[u8]) -> Lent<u8> {
     Lent::new(random, content, |word| word as u8)
 }
 
+fn words(random: &mut Random, content: &[u32]) -> Lent<u32> {
+    Lent::new(random, content, |word| word as u32)
+}
+
+/// What the answer held must not show: every word is written.
+fn answer(random: &mut Random) -> Lent<u64> {
+    let held: Vec<u64> = (0..8).map(|_| random.next()).collect();
+    Lent::new(random, &held, |word| word)
+}
+
 /// Runs a converting call. Reports what it changed that is not its own.
 pub fn convert(random: &mut Random, run: &Run) -> Result<Seen, String> {
     let mut from = bytes(random, &run.source_sheet);
     let mut to = bytes(random, &run.destination_sheet);
     let mut first = bytes(random, &run.first);
     let mut second = bytes(random, &run.second);
-    let mut table = Lent::new(random, &run.table, |word| word as u32);
-    // What the answer held must not show: every word is written.
-    let held: Vec<u64> = (0..8).map(|_| random.next()).collect();
-    let mut answer = Lent::new(random, &held, |word| word);
+    let mut table = words(random, &run.table);
+    let mut answer = answer(random);
     #[rustfmt::skip]
     macro_rules! call {
         ($name:ident $(, $handling:expr)?) => {
@@ -83,9 +93,8 @@ pub fn convert(random: &mut Random, run: &Run) -> Result<Seen, String> {
 pub fn list(random: &mut Random, sheet: &[u8], list: &[u8], table: &[u32]) -> Result<Seen, String> {
     let mut sheet = bytes(random, sheet);
     let mut list = bytes(random, list);
-    let mut table = Lent::new(random, table, |word| word as u32);
-    let held: Vec<u64> = (0..8).map(|_| random.next()).collect();
-    let mut answer = Lent::new(random, &held, |word| word);
+    let mut table = words(random, table);
+    let mut answer = answer(random);
     let returned = unsafe {
         yirvagul_leaf_list(
             sheet.pointer(),
@@ -101,9 +110,27 @@ pub fn list(random: &mut Random, sheet: &[u8], list: &[u8], table: &[u32]) -> Re
     seen(returned, list, table, answer)
 }
 
+/// Runs the record size, which has no buffer to write.
+pub fn record_size(random: &mut Random, sheet: &[u8], table: &[u32]) -> Result<Seen, String> {
+    let mut sheet = bytes(random, sheet);
+    let mut table = words(random, table);
+    let mut answer = answer(random);
+    let returned = unsafe {
+        yirvagul_record_size(
+            sheet.pointer(),
+            sheet.len(),
+            table.pointer(),
+            table.len(),
+            answer.pointer().cast(),
+        )
+    };
+    whole("the sheet", sheet.unchanged())?;
+    seen(returned, bytes(random, &[]), table, answer)
+}
+
 /// Runs a setter; gives its number and the layout after it.
 pub fn set(random: &mut Random, layout: Words, setter: Setter) -> Result<(u32, Words), String> {
-    let mut lent = Lent::new(random, &layout, |word| word as u32);
+    let mut lent = words(random, &layout);
     let words = lent.pointer().cast();
     let returned = unsafe {
         match setter {

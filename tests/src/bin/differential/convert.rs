@@ -9,6 +9,7 @@ use crate::model::Model;
 use crate::random::Random;
 use crate::records::records;
 use crate::run::{self, FORMS, Run};
+use crate::sizes;
 use crate::tally::Tally;
 use independent::datatype::Datatype;
 use independent::paths::{self, Match};
@@ -57,7 +58,7 @@ pub fn long_case(random: &mut Random, tally: &mut Tally) -> Result<(), String> {
 fn finish(random: &mut Random, tally: &mut Tally, run: &Run) -> Result<(), String> {
     let seen = run::both(random, run)?;
     crate::events::note(tally, run, &seen);
-    Ok(())
+    sizes::of_run(random, tally, run)
 }
 
 /// Calls with both datatypes and the matches, if there is a path.

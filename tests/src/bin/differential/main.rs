@@ -18,6 +18,7 @@ mod properties;
 mod random;
 mod records;
 mod run;
+mod sizes;
 mod tally;
 mod watch;
 

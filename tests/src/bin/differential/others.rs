@@ -8,6 +8,7 @@ use crate::limits;
 use crate::lines;
 use crate::random::Random;
 use crate::run::{self, Seen};
+use crate::sizes;
 use crate::tally::Tally;
 use independent::datatype::{Order, Pad};
 use independent::list;
@@ -61,7 +62,7 @@ pub fn list_case(random: &mut Random, tally: &mut Tally) -> Result<(), String> {
     if seen.answer[0] == 0 && datatype.is_ok_and(|datatype| datatype.size() == 4096) {
         tally.saw("list of 4,096-byte records");
     }
-    Ok(())
+    sizes::of_sheet(random, tally, &text, &table)
 }
 
 /// A session of edits of one layout.

@@ -6,6 +6,7 @@ use crate::derive::derive;
 use crate::random::Random;
 use crate::records::{fitting, put, records, with_other_free_bits};
 use crate::run::{self, FORMS, Form, Run, Seen, tell};
+use crate::sizes;
 use crate::tally::Tally;
 use independent::call::part;
 use independent::datatype::Datatype;
@@ -26,6 +27,8 @@ pub fn case(random: &mut Random, tally: &mut Tally) -> Result<(), String> {
     let (from, to) = (model.text(), derive(random, &model).text());
     let words = 8192 + random.below(3) as usize;
     let table = random.words(words);
+    sizes::of_sheet(random, tally, &from, &table)?;
+    sizes::of_sheet(random, tally, &to, &table)?;
     let tested = with_types(&from, &to, |datatype, other, matches| {
         let count = random
             .between(1, 1500 / (matches.len() as u64 + 1) + 1)
@@ -222,6 +225,7 @@ fn refused_case(random: &mut Random, tally: &mut Tally) -> Result<(), String> {
     let (from, to) = (model.text(), derive(random, &model).text());
     let run = convert::make(random, 20, from, to);
     let seen = run::both(random, &run)?;
+    sizes::of_run(random, tally, &run)?;
     if !(1..=7).contains(&seen.answer[0]) {
         return Ok(());
     }

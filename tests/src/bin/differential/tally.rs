@@ -8,7 +8,7 @@ use std::collections::BTreeMap;
 pub struct Tally(BTreeMap<String, u64>);
 
 /// Beside the answers, what a whole run must have met.
-const NEEDED: [&str; 37] = [
+const NEEDED: [&str; 40] = [
     "case: conversion",
     "case: conversion with many refusals",
     "case: conversion at the limits",
@@ -38,6 +38,9 @@ const NEEDED: [&str; 37] = [
     "in place, growing, several records",
     "in place, shrinking, several records",
     "list of 4,096-byte records",
+    "record size 4,096",
+    "record size, 2 and 3 at once",
+    "record size, SOURCE at line 0",
     "setter on a broken layout",
     "setter changed another word",
     "property: in place equals from a copy",
@@ -92,6 +95,7 @@ fn answers() -> Vec<String> {
         }
     }
     add("leaf list", &[0, 2, 3, 7]);
+    add("record size", &[0, 2, 3]);
     for setter in ["size", "order", "precision", "offset", "pads", "sign"] {
         add(setter, &[0, 9]);
     }

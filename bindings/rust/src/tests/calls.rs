@@ -1,10 +1,6 @@
 //! Every call, and every number that it answers.
+use super::{BITS, BYTE, PAIR, SIGNED};
 use crate::*;
-
-const BYTE: &[u8] = b"int\t1\tLE\t0\t8\tzero\tzero\tunsigned\n";
-const SIGNED: &[u8] = b"int\t1\tLE\t0\t8\tzero\tzero\tsigned\n";
-const PAIR: &[u8] = b"int\t2\tBE\t0\t16\tzero\tzero\tunsigned\n";
-const BITS: &[u8] = b"bits\t1\tLE\t0\t8\tzero\tzero\n";
 
 const WIDE: Layout = Layout {
     class: Class::Int,
@@ -50,7 +46,7 @@ fn in_place_grows_and_shrinks() {
 #[test]
 fn no_records_and_empty_buffers() {
     assert_eq!(convert_copying_plain(BYTE, PAIR, 0, &[], &mut []), Ok(0));
-    assert_eq!(leaf_list(&[]), Err(Error::Source { line: 1 }));
+    assert_eq!(leaf_list(&[]).unwrap_err().number(), 3);
 }
 
 #[test]
@@ -62,10 +58,18 @@ fn a_list() {
     let mut list = [0x77; 24];
     assert_eq!(Converter::new().leaf_list_into(BITS, &mut list), Ok(23));
     assert_eq!(list[23], 0x77);
-    assert_eq!(
-        Converter::new().leaf_list_into(BITS, &mut list[..22]),
-        Err(Error::Room)
-    );
+    let short = Converter::new().leaf_list_into(BITS, &mut list[..22]);
+    assert_eq!(short.unwrap_err().number(), 7);
+}
+
+#[test]
+fn a_record_size() {
+    assert_eq!(record_size(PAIR), Ok(2));
+    let gaps = [PAIR, b"comp\t4096\n"].concat();
+    assert_eq!(record_size(&gaps), Ok(4096));
+    assert_eq!(record_size(b"int\t9\n").unwrap_err().number(), 3);
+    let mut short = Converter::with_table(vec![7; TABLE_WORDS - 1]);
+    assert_eq!(short.record_size(PAIR), Err(Error::Table));
 }
 
 #[test]
@@ -81,38 +85,36 @@ fn each_refusal_leaves_the_destination() {
     let mut refused = |from: &[u8], to: &[u8], count, handling| {
         let e = convert_copying(from, to, count, handling, source, &mut out).unwrap_err();
         assert_eq!(out, [0x77; 3]);
-        e
+        assert!(e
+            .to_string()
+            .starts_with(&format!("{} ({}): ", e.name(), e.number())));
+        (e.number(), e.name(), e)
     };
-    let named = |e: Error| (e, e.number(), e.name());
-    assert_eq!(
-        named(refused(b"int\t9\n", BYTE, 1, Handling::Clamp)),
-        (Error::Source { line: 1 }, 3, "SOURCE")
-    );
-    assert_eq!(
-        named(refused(BYTE, &[BYTE, b"x\n"].concat(), 1, Handling::Clamp)),
-        (Error::Destination { line: 2 }, 4, "DESTINATION")
-    );
-    assert_eq!(
-        named(refused(BYTE, BITS, 1, Handling::Clamp)),
-        (Error::Path, 5, "PATH")
-    );
-    assert_eq!(
-        named(refused(BYTE, BYTE, 65_537, Handling::Clamp)),
-        (Error::Count, 6, "COUNT")
-    );
-    assert_eq!(
-        named(refused(BYTE, BYTE, 3, Handling::Clamp)),
-        (Error::Room, 7, "ROOM")
-    );
-    let stop = Error::Stop {
-        record: 1,
-        at: 0,
-        kind: Kind::Above,
+    let e = refused(b"int\t9\n", BYTE, 1, Handling::Clamp);
+    assert!(matches!(e, (3, "SOURCE", Error::Source { line: 1, .. })));
+    let e = refused(BYTE, &[BYTE, b"x\n"].concat(), 1, Handling::Clamp);
+    assert!(matches!(
+        e,
+        (4, "DESTINATION", Error::Destination { line: 2, .. })
+    ));
+    let e = refused(BYTE, BITS, 1, Handling::Clamp);
+    assert!(matches!(e, (5, "PATH", Error::Path { .. })));
+    let e = refused(BYTE, BYTE, 65_537, Handling::Clamp);
+    assert!(matches!(e, (6, "COUNT", Error::Count)));
+    let e = refused(BYTE, BYTE, 3, Handling::Clamp);
+    assert!(matches!(e, (7, "ROOM", Error::Room { .. })));
+    let (8, "STOP", e) = refused(BYTE, SIGNED, 2, Handling::Stop) else {
+        panic!("no STOP");
     };
-    assert_eq!(
-        named(refused(BYTE, SIGNED, 2, Handling::Stop)),
-        (stop, 8, "STOP")
-    );
+    assert!(matches!(
+        e,
+        Error::Stop {
+            record: 1,
+            at: 0,
+            kind: Kind::Above,
+            ..
+        }
+    ));
 }
 
 #[test]
@@ -129,20 +131,23 @@ fn kinds_of_stop() {
         other => panic!("{other:?}"),
     };
     let symbols = [BYTE, b"enum\t0\nvalue\topen\t0\n"].concat();
-    assert_eq!(kind(SIGNED, BYTE, 0xff), Kind::Below);
-    assert_eq!(kind(BYTE, SIGNED, 0xff), Kind::Above);
-    assert_eq!(kind(&symbols, &symbols, 7), Kind::NoSymbol);
+    let below = kind(SIGNED, BYTE, 0xff);
+    assert_eq!((below, below.number()), (Kind::Below, 2));
+    let above = kind(BYTE, SIGNED, 0xff);
+    assert_eq!((above, above.number()), (Kind::Above, 1));
+    let none = kind(&symbols, &symbols, 7);
+    assert_eq!((none, none.number()), (Kind::NoSymbol, 3));
 }
 
 #[test]
 fn a_short_table_and_an_unknown_handling() {
     let mut short = Converter::with_table(vec![7; TABLE_WORDS - 1]);
     let e = short.leaf_list(BITS).unwrap_err();
-    assert_eq!((e, e.number(), e.name()), (Error::Table, 2, "TABLE"));
+    assert_eq!((e.number(), e.name(), e), (2, "TABLE", Error::Table));
     let sheets = sheets(BYTE, BYTE, 1);
     let answer = raw::convert_copying(&sheets, 2, &[5], &mut [0], &mut [0; TABLE_WORDS]);
-    let e = error::outcome(answer).unwrap_err();
-    assert_eq!((e, e.number(), e.name()), (Error::Handling, 1, "HANDLING"));
+    let e = Error::from_answer(answer);
+    assert_eq!((e.number(), e.name(), e), (1, "HANDLING", Error::Handling));
 }
 
 #[test]
@@ -179,24 +184,11 @@ fn refused_setters_leave_a_layout() {
 }
 
 #[test]
-fn messages_are_in_plain_words() {
-    let said = |e: Error| e.to_string();
-    assert_eq!(
-        said(Error::Source { line: 4 }),
-        "SOURCE (3): line 4 of the source sheet is faulty: correct it by the rules of sheets and the lines before it"
-    );
-    assert_eq!(
-        said(Error::Destination { line: 0 }),
-        "DESTINATION (4): the destination sheet is too long: keep it within 16,384 bytes"
-    );
-    for e in [
-        Error::Handling,
-        Error::Table,
-        Error::Path,
-        Error::Count,
-        Error::Room,
-        Error::Range,
-    ] {
-        assert!(said(e).starts_with(&format!("{} ({}): ", e.name(), e.number())));
-    }
+fn the_header_has_this_version() {
+    let header = include_str!("../../../../include/yirvagul.h");
+    let number = |part: &str| part.parse::<u32>().unwrap();
+    let version = number(env!("CARGO_PKG_VERSION_MAJOR")) * 10_000
+        + number(env!("CARGO_PKG_VERSION_MINOR")) * 100
+        + number(env!("CARGO_PKG_VERSION_PATCH"));
+    assert!(header.contains(&format!("#define YIRVAGUL_VERSION {version}\n")));
 }

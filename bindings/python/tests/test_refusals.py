@@ -1,0 +1,225 @@
+"""Refusals: their fields, their words, and their way through pickles, copies and pools."""
+
+import copy
+import multiprocessing
+import pickle
+import unittest
+
+import yirvagul
+from common import BITS, BYTE, CUSTOMER, PAIR, RIG, SIGNED
+from yirvagul import Class, Handling, Kind, Layout, Number, Order, Pad, Refusal, Short, Sign, _explain, _library
+
+LOG = bytes.fromhex("06 40 7d 00 ff f0 00 00  00 00 00 10 00 20 00 07")
+
+
+def _raw(handling, words):
+    """The C call itself, with arguments that the module's own calls never pass."""
+    sheet, data = BYTE.encode(), bytearray(1)
+    table, answer = _library.Table(), _library.Answer()
+    with yirvagul.calls.Held("destination", data, written=True) as out:
+        lent = (sheet, len(sheet), sheet, len(sheet), 1, handling, b"\x05", 1, out.address, 1)
+        _library.convert_copying(*lent, table, words, answer)
+    raise _explain.refusal(tuple(answer), sheet, sheet)
+
+
+def refuse(number):
+    """Raises the refusal of that number, each as the library gives it."""
+    out = bytearray(14)
+    if number == Number.HANDLING:
+        _raw(2, 8192)
+    elif number == Number.TABLE:
+        _raw(0, 8191)
+    elif number == Number.SOURCE:
+        yirvagul.convert_copying("int\t9\n", BYTE, 1, Handling.STOP, LOG, out)
+    elif number == Number.DESTINATION:
+        yirvagul.convert_in_place(BYTE, BYTE + "value\ta\t1\n", 1, Handling.STOP, out, LOG)
+    elif number == Number.PATH:
+        yirvagul.convert_copying(RIG, CUSTOMER.replace("array\t0\t3", "array\t0\t2"), 1, Handling.STOP, LOG, out)
+    elif number == Number.COUNT:
+        yirvagul.convert_copying(RIG, CUSTOMER, 65537, Handling.STOP, LOG, out)
+    elif number == Number.ROOM:
+        yirvagul.convert_copying(RIG, CUSTOMER, 3, Handling.STOP, LOG, out)
+    elif number == Number.STOP:
+        yirvagul.convert_copying(RIG, CUSTOMER, 2, Handling.STOP, LOG, out)
+    elif number == Number.RANGE:
+        Layout(Class.INT, 2, Order.BE, 4, 12, Pad.ZERO, Pad.ZERO, Sign.UNSIGNED).set_offset(53)
+
+
+def refusal(number):
+    try:
+        refuse(number)
+    except Refusal as refused:
+        return refused
+    raise AssertionError(f"{number} was not refused")
+
+
+NUMBERS = [number for number in Number if number != Number.DONE]
+
+WORDS = {
+    Number.HANDLING: "HANDLING (1): handling is neither Handling.CLAMP nor Handling.STOP: pass one of them",
+    Number.TABLE: "TABLE (2): the library wants a longer working table than this version of yirvagul lends: build both from one repository",
+    Number.SOURCE: "SOURCE (3): line 1 of the source sheet is faulty, `int\\t9`: "
+    "it has 2 fields, and int has 8, parted by one tab: int, size, order, offset, precision, lsb, msb, sign",
+    Number.DESTINATION: "DESTINATION (4): line 2 of the destination sheet is faulty, `value\\ta\\t1`: "
+    "value follows an enum or another value of it, and the type before it is an int",
+    Number.PATH: "PATH (5): no path from the source type to the destination type at `boost`: "
+    "the source has an array of 3, the destination one of 2: give both as many elements",
+    Number.COUNT: "COUNT (6): 65,537 records, more than 65,536, in one call: convert them with convert_log, or in parts",
+    Number.ROOM: "ROOM (7): the source is too short: it holds 16 bytes and needs 24; "
+    "the destination is too short: it holds 14 bytes and needs 21: lend longer ones",
+    Number.STOP: "STOP (8): record 1, `valve` at byte 0: "
+    "the number has no symbol, or its symbol is not in the destination: complete the enums, or clamp",
+    Number.RANGE: "RANGE (9): offset 53 and precision 12 do not fit 8 bytes: keep the offset within 0 to 52",
+}
+
+FIELDS = ("number", "name", "sheet", "line", "text", "rule", "member", "count", "short", "record", "at", "kind", "answer", "args")
+
+
+def fields(refused):
+    return {name: getattr(refused, name) for name in FIELDS}
+
+
+class Messages(unittest.TestCase):
+    def test_each_number(self):
+        for number in NUMBERS:
+            refused = refusal(number)
+            self.assertEqual((refused.number, refused.name), (number, number.name))
+            self.assertEqual(str(refused), WORDS[number])
+
+    def test_fields(self):
+        told = {
+            Number.HANDLING: {},
+            Number.TABLE: {},
+            Number.SOURCE: {"line": 1, "text": "int\t9"},
+            Number.DESTINATION: {"line": 2, "text": "value\ta\t1"},
+            Number.PATH: {"member": "boost"},
+            Number.COUNT: {"count": 65537},
+            Number.ROOM: {"short": (Short("source", 16, 24), Short("destination", 14, 21))},
+            Number.STOP: {"record": 1, "at": 0, "kind": Kind.NO_SYMBOL, "member": "valve"},
+            Number.RANGE: {},
+        }
+        for number in NUMBERS:
+            has = fields(refusal(number))
+            for name in ("line", "text", "member", "count", "record", "at", "kind"):
+                self.assertEqual(has[name], told[number].get(name), (number, name))
+            self.assertEqual(has["short"], told[number].get("short", ()))
+
+    def test_room_names_the_short_buffer(self):
+        def short(call, *arguments, **more):
+            with self.assertRaises(Refusal) as caught:
+                call(*arguments, **more)
+            return caught.exception
+
+        copying, in_place = yirvagul.convert_copying, yirvagul.convert_in_place
+        for refused, buffer, holds, needs in (
+            (short(copying, BYTE, PAIR, 3, Handling.STOP, bytes(2), bytearray(6)), "source", 2, 3),
+            (short(copying, BYTE, PAIR, 3, Handling.STOP, bytes(3), bytearray(5)), "destination", 5, 6),
+            (short(in_place, BYTE, PAIR, 3, Handling.STOP, bytearray(5), bytes(6)), "buffer", 5, 6),
+            (short(in_place, PAIR, BYTE, 3, Handling.STOP, bytearray(5), bytes(3)), "buffer", 5, 6),
+            (short(in_place, PAIR, BYTE, 3, Handling.STOP, bytearray(6), bytes(2)), "background", 2, 3),
+            (short(yirvagul.leaf_list, BITS, room=22), "list", 22, 23),
+        ):
+            self.assertEqual(refused.short, ((buffer, holds, needs),))
+            self.assertEqual(
+                str(refused), f"ROOM (7): the {buffer} is too short: it holds {holds} bytes and needs {needs}: lend a longer one"
+            )
+
+    def test_each_kind(self):
+        narrow = "int\t1\tLE\t0\t4\tzero\tzero\tsigned\n"
+        for source, destination, data, kind, words in (
+            (SIGNED, narrow, b"\x07\x08", Kind.ABOVE, "above"),
+            (SIGNED, narrow, b"\xf8\xf7", Kind.BELOW, "below"),
+        ):
+            with self.assertRaises(Refusal) as caught:
+                yirvagul.convert_copying(source, destination, 2, Handling.STOP, data, bytearray(2))
+            self.assertEqual((caught.exception.record, caught.exception.kind), (1, kind))
+            self.assertEqual(
+                str(caught.exception),
+                f"STOP (8): record 1, byte 0: the number is {words} the destination's range: widen the destination, or clamp",
+            )
+
+    def test_what_nobody_could_tell(self):
+        """With nothing but the library's words."""
+        for refused, words in (
+            (Refusal(3, line=4), "SOURCE (3): line 4 of the source sheet is faulty: correct it by the rules of sheets and the lines before it"),
+            (Refusal(4, line=0), "DESTINATION (4): the destination sheet is faulty: it is too long: shorten it"),
+            (
+                Refusal(5),
+                "PATH (5): no path from the source type to the destination type: "
+                "give members of one name the same class, and arrays as many elements",
+            ),
+            (Refusal(6), "COUNT (6): more than 65,536 records in one call: convert them with convert_log, or in parts"),
+            (Refusal(7), "ROOM (7): a buffer is too short for that many records, or for the list: lend a longer one"),
+            (
+                Refusal(9),
+                "RANGE (9): the argument or the layout breaks the rules of a layout: size 1 to 8 bytes, precision 1 to 64 bits, "
+                "offset + precision within the size, no sign on bits",
+            ),
+        ):
+            self.assertEqual(str(refused), words)
+
+    def test_a_place_that_only_the_library_knows(self):
+        """Sheets that this version cannot read explain nothing, and hide nothing."""
+        new = b"real\t8\tLE\n"
+        refused = _explain.refusal((8, 0, 0, 3, 8, 1, 0, 0), new, new)
+        self.assertEqual((refused.record, refused.at, refused.kind, refused.member), (3, 8, Kind.ABOVE, None))
+        self.assertEqual(_explain.refusal((5, 0, 0, 0, 0, 0, 0, 0), new, new).rule, None)
+        same = BYTE.encode()
+        self.assertEqual(str(_explain.refusal((5, 0, 0, 0, 0, 0, 0, 0), same, same)), str(Refusal(5)))
+
+
+class FromANewerLibrary(unittest.TestCase):
+    def test_numbers(self):
+        for number in (10, 12, 15, 255, 1 << 32):
+            answer = (number, 0, 7, 0, 0, 0, 0, 0)
+            refused = _explain.refusal(answer, BYTE.encode(), BYTE.encode(), count=1)
+            self.assertEqual((refused.number, refused.name, refused.answer), (number, "UNKNOWN", answer))
+            self.assertEqual(
+                str(refused),
+                f"UNKNOWN ({number}): the library refused with a number that this version of yirvagul does not know "
+                f"(its answer is {number} 0 7 0 0 0 0 0): take the version of the library",
+            )
+            self.assertEqual(fields(pickle.loads(pickle.dumps(refused))), fields(refused))
+
+    def test_kinds(self):
+        for kind in (0, 4, 5, 6, 99):
+            refused = _explain.refusal((8, 0, 0, 1, 2, kind, 0, 0), RIG.encode(), RIG.encode())
+            self.assertEqual((refused.name, refused.kind, refused.member), ("STOP", kind, "boost[1]"))
+            self.assertEqual(
+                str(refused),
+                f"STOP (8): record 1, `boost[1]` at byte 2: the number does not fit, of kind {kind}, "
+                "which this version of yirvagul does not know: clamp, or take the version of the library",
+            )
+            self.assertEqual(fields(pickle.loads(pickle.dumps(refused))), fields(refused))
+
+
+class Copies(unittest.TestCase):
+    def test_pickles_and_copies(self):
+        for number in NUMBERS:
+            refused = refusal(number)
+            refused.own = "kept"
+            for protocol in range(pickle.HIGHEST_PROTOCOL + 1):
+                self.same(refused, pickle.loads(pickle.dumps(refused, protocol)))
+            self.same(refused, copy.copy(refused))
+            self.same(refused, copy.deepcopy(refused))
+
+    def same(self, refused, made):
+        self.assertIsNot(made, refused)
+        self.assertIs(type(made), Refusal)
+        self.assertEqual(fields(made), fields(refused))
+        self.assertEqual((str(made), repr(made), made.own), (str(refused), repr(refused), "kept"))
+
+    def test_through_pools(self):
+        """A worker that is refused, by each number, and after it one that is not."""
+        for method in ("fork", "spawn"):
+            with multiprocessing.get_context(method).Pool(2) as pool:
+                asked = [(number, pool.apply_async(refuse, (number,))) for number in NUMBERS]
+                for number, result in asked:
+                    with self.assertRaises(Refusal) as caught:
+                        result.get(timeout=60)
+                    self.assertEqual(fields(caught.exception), fields(refusal(number)))
+                self.assertEqual(pool.apply_async(yirvagul.record_size, (RIG,)).get(timeout=60), 8)
+
+
+if __name__ == "__main__":
+    unittest.main()

@@ -1,0 +1,59 @@
+"""Converts records of instrument logs from one binary layout to another, lists a layout's leaves, and edits atomic layouts.
+
+A wrapper over Yirvagul's proved C library. A sheet is text or its bytes. A buffer that is read is anything with contiguous bytes (bytes, bytearray,
+memoryview, mmap, array, numpy array); one that is written is writable and shares no byte with one that is read, which is checked but for two mappings
+of one file. Nothing is copied but sheets.
+
+A refused call raises `Refusal` and leaves buffers, layouts and logs as they were. Handling is what to do with numbers that do not fit:
+`Handling.CLAMP` writes the nearest that fits and counts it, `Handling.STOP` refuses.
+
+Calls keep nothing and let other threads run meanwhile: any number of threads may call at once, each with buffers that no other one writes. A call
+takes at most `STACK_BYTES` of its thread's stack.
+"""
+
+from .arrays import convert_to_array, dtype_of, sheet_of
+from .calls import (
+    LIST_BYTES,
+    Handling,
+    convert_copying,
+    convert_copying_plain,
+    convert_in_place,
+    convert_in_place_plain,
+    leaf_list,
+    record_size,
+)
+from .errors import Kind, Number, Refusal, Short
+from .layout import Class, Layout, Order, Pad, Sign
+from .log import Part, convert_log, convert_log_parts
+
+__version__ = "0.1.0"
+
+__all__ = [
+    "LIST_BYTES",
+    "STACK_BYTES",
+    "Class",
+    "Handling",
+    "Kind",
+    "Layout",
+    "Number",
+    "Order",
+    "Pad",
+    "Part",
+    "Refusal",
+    "Short",
+    "Sign",
+    "convert_copying",
+    "convert_copying_plain",
+    "convert_in_place",
+    "convert_in_place_plain",
+    "convert_log",
+    "convert_log_parts",
+    "convert_to_array",
+    "dtype_of",
+    "leaf_list",
+    "record_size",
+    "sheet_of",
+]
+
+STACK_BYTES = 163840
+"""The most that any call takes of its thread's stack."""

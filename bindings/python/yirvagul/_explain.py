@@ -1,0 +1,63 @@
+"""Turns an answer into a refusal that tells what a second reading of the sheets can tell; where that finds nothing, what the library said."""
+
+from __future__ import annotations
+
+from typing import Optional, Sequence
+
+from . import sheets
+from .errors import Number, Refusal, Short
+
+# The answer's words.
+COUNT, LINE, RECORD, AT, KIND = 1, 2, 3, 4, 5
+
+
+def refusal(
+    answer: Sequence[int],
+    source_sheet: bytes,
+    destination_sheet: Optional[bytes] = None,
+    *,
+    count: Optional[int] = None,
+    first: int = 0,
+    short: Sequence[Short] = (),
+) -> Refusal:
+    """The refusal that an answer is, to a call with one or two sheets, for count records, the first of which is number `first` of its log."""
+    number = answer[0]
+    if number == Number.SOURCE:
+        return _faulty(answer, "source sheet" if destination_sheet is not None else "sheet", source_sheet)
+    if number == Number.DESTINATION and destination_sheet is not None:
+        return _faulty(answer, "destination sheet", destination_sheet)
+    if number == Number.PATH and destination_sheet is not None:
+        source, destination = tree(source_sheet), tree(destination_sheet)
+        found = sheets.no_path(source, destination) if source and destination else None
+        return Refusal(number, member=found and found.member, rule=found and found.rule, answer=answer)
+    if number == Number.COUNT:
+        return Refusal(number, count=count, answer=answer)
+    if number == Number.ROOM:
+        return Refusal(number, short=short, answer=answer)
+    if number == Number.STOP and destination_sheet is not None:
+        destination = tree(destination_sheet)
+        member = sheets.leaf_name(destination, answer[AT]) if destination else None
+        return Refusal(
+            number, record=first + answer[RECORD], at=answer[AT], kind=answer[KIND], member=member, answer=answer
+        )
+    return Refusal(number, answer=answer)
+
+
+def tree(sheet: bytes) -> Optional[sheets.Type]:
+    """The sheet's type; None of a sheet that only the library can read."""
+    try:
+        return sheets.read(sheet)
+    except sheets.Fault:
+        return None
+
+
+def _faulty(answer: Sequence[int], which: str, sheet: bytes) -> Refusal:
+    line = answer[LINE]
+    lines = sheet.split(b"\n")
+    text = lines[line - 1].decode("latin-1") if sheet and 1 <= line <= len(lines) else None
+    rule = None
+    try:
+        sheets.read(sheet)
+    except sheets.Fault as fault:
+        rule = fault.rule if fault.line == line else None
+    return Refusal(answer[0], sheet=which, line=line, text=text, rule=rule, answer=answer)

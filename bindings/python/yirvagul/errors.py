@@ -1,0 +1,176 @@
+"""Refusals: the library's numbers, names and place fields, in words that say what is wrong, where, and what to do."""
+
+from __future__ import annotations
+
+import copyreg
+import enum
+from typing import Any, Callable, NamedTuple, Optional, Sequence, TypeVar, Union
+
+
+class Number(enum.IntEnum):
+    """What a call answers: done, or the first check that fails."""
+
+    DONE = 0
+    HANDLING = 1
+    TABLE = 2
+    SOURCE = 3
+    DESTINATION = 4
+    PATH = 5
+    COUNT = 6
+    ROOM = 7
+    STOP = 8
+    RANGE = 9
+
+
+class Kind(enum.IntEnum):
+    """Why a number does not fit its destination leaf."""
+
+    ABOVE = 1
+    BELOW = 2
+    NO_SYMBOL = 3
+
+
+class Short(NamedTuple):
+    """A buffer that is too short: its name, the bytes that it holds, and those that it needs."""
+
+    buffer: str
+    holds: int
+    needs: int
+
+
+_Code = TypeVar("_Code", bound=enum.IntEnum)
+
+
+def _known(codes: type[_Code], number: int) -> Union[_Code, int]:
+    """The number's name; of a number from a newer library, the number itself."""
+    try:
+        return codes(number)
+    except ValueError:
+        return number
+
+
+class Refusal(Exception):
+    """A refused call. It left data buffers, layouts and logs as they were.
+
+    Every refusal has `number` and `name`. Of the others, those that the number does not name, or that could not be told, are None (`short`: empty):
+
+    - SOURCE, DESTINATION: `line`, counted from 1, or 0 where the sheet is too long; its `text`; the `rule` that it breaks
+    - PATH: the `member` that has none, and the `rule` that it breaks
+    - COUNT: `count`, the number of records
+    - ROOM: `short`, each buffer that is too short
+    - STOP: `record`, from 0; `at`, the first byte of the leaf in its destination record; `kind`; the `member`, such as `boost[1]`
+    - RANGE: the `rule` that an argument or the layout breaks
+
+    A number or a kind that this version does not know is kept as it came: the name is then UNKNOWN, and `answer` has all words of the answer.
+    """
+
+    def __init__(
+        self,
+        number: int,
+        *,
+        sheet: Optional[str] = None,
+        line: Optional[int] = None,
+        text: Optional[str] = None,
+        rule: Optional[str] = None,
+        member: Optional[str] = None,
+        count: Optional[int] = None,
+        short: Sequence[Short] = (),
+        record: Optional[int] = None,
+        at: Optional[int] = None,
+        kind: Optional[int] = None,
+        answer: Sequence[int] = (),
+    ) -> None:
+        self.number = _known(Number, number)
+        self.name: str = self.number.name if isinstance(self.number, Number) else "UNKNOWN"
+        self.sheet, self.line, self.text, self.rule, self.member = sheet, line, text, rule, member
+        self.count, self.short = count, tuple(short)
+        self.record, self.at = record, at
+        self.kind = None if kind is None else _known(Kind, kind)
+        self.answer = tuple(answer)
+        said = _MESSAGES.get(int(number), _unknown)(self)
+        super().__init__(f"{self.name} ({int(number)}): {said}")
+
+    def __reduce__(self) -> tuple[Any, ...]:
+        # Made again from its message and its fields: the default would hand the message to __init__ as a number.
+        return copyreg.__newobj__, (type(self), *self.args), self.__dict__.copy()  # type: ignore[attr-defined]
+
+
+# ---- the messages
+
+
+def quoted(text: str) -> str:
+    """A text of a sheet in quotes: tabs and other bytes that do not show are escaped, and a long one is cut."""
+    shown = ascii(text[:80])[1:-1]
+    return f"`{shown}`" if len(text) <= 80 else f"`{shown}..`"
+
+
+def _faulty(refused: Refusal) -> str:
+    which = refused.sheet or ("source sheet" if refused.number == Number.SOURCE else "destination sheet")
+    if refused.line == 0:
+        return f"the {which} is faulty: {refused.rule or 'it is too long: shorten it'}"
+    text = f", {quoted(refused.text)}" if refused.text else ""
+    rule = refused.rule or "correct it by the rules of sheets and the lines before it"
+    return f"line {refused.line} of the {which} is faulty{text}: {rule}"
+
+
+def _path(refused: Refusal) -> str:
+    rule = refused.rule or "give members of one name the same class, and arrays as many elements"
+    if refused.member is None:
+        return f"no path from the source type to the destination type: {rule}"
+    return f"no path from the source type to the destination type at {quoted(refused.member)}: {rule}"
+
+
+def _count(refused: Refusal) -> str:
+    records = "more than 65,536 records" if refused.count is None else f"{refused.count:,} records, more than 65,536,"
+    return f"{records} in one call: convert them with convert_log, or in parts"
+
+
+def _room(refused: Refusal) -> str:
+    if not refused.short:
+        return "a buffer is too short for that many records, or for the list: lend a longer one"
+    said = "; ".join(f"the {name} is too short: it holds {holds} bytes and needs {needs}" for name, holds, needs in refused.short)
+    return f"{said}: lend {'a longer one' if len(refused.short) == 1 else 'longer ones'}"
+
+
+_WHY = {
+    Kind.ABOVE: "the number is above the destination's range: widen the destination, or clamp",
+    Kind.BELOW: "the number is below the destination's range: widen the destination, or clamp",
+    Kind.NO_SYMBOL: "the number has no symbol, or its symbol is not in the destination: complete the enums, or clamp",
+}
+
+
+def _stop(refused: Refusal) -> str:
+    leaf = f"byte {refused.at}" if refused.member is None else f"{quoted(refused.member)} at byte {refused.at}"
+    if isinstance(refused.kind, Kind):
+        why = _WHY[refused.kind]
+    else:
+        why = (
+            f"the number does not fit, of kind {refused.kind}, which this version of yirvagul does not know: "
+            "clamp, or take the version of the library"
+        )
+    return f"record {refused.record}, {leaf}: {why}"
+
+
+def _range(refused: Refusal) -> str:
+    return refused.rule or (
+        "the argument or the layout breaks the rules of a layout: size 1 to 8 bytes, precision 1 to 64 bits, "
+        "offset + precision within the size, no sign on bits"
+    )
+
+
+def _unknown(refused: Refusal) -> str:
+    words = f" (its answer is {' '.join(map(str, refused.answer))})" if refused.answer else ""
+    return f"the library refused with a number that this version of yirvagul does not know{words}: take the version of the library"
+
+
+_MESSAGES: dict[int, Callable[[Refusal], str]] = {
+    Number.HANDLING: lambda _: "handling is neither Handling.CLAMP nor Handling.STOP: pass one of them",
+    Number.TABLE: lambda _: "the library wants a longer working table than this version of yirvagul lends: build both from one repository",
+    Number.SOURCE: _faulty,
+    Number.DESTINATION: _faulty,
+    Number.PATH: _path,
+    Number.COUNT: _count,
+    Number.ROOM: _room,
+    Number.STOP: _stop,
+    Number.RANGE: _range,
+}

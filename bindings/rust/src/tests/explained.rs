@@ -1,0 +1,234 @@
+//! What is said of refusals by their buffers, paths and leaves, and that nothing is said which the library did not.
+use super::{BITS, BYTE, PAIR, SIGNED};
+use crate::*;
+
+fn copying(from: &[u8], to: &[u8], count: u64, source: &[u8], room: usize) -> Error {
+    let mut out = vec![0; room];
+    convert_copying(from, to, count, Handling::Stop, source, &mut out).unwrap_err()
+}
+
+fn path(from: &[u8], to: &[u8]) -> String {
+    let said = copying(from, to, 0, &[], 0).to_string();
+    let start = "PATH (5): no path from the source type to the destination type: ";
+    said.strip_prefix(start).expect(&said).to_string()
+}
+
+/// A compound of one member, which is the newest type of some lines.
+fn record(lines: &[u8], size: u32, number: u32, name: &str) -> Vec<u8> {
+    let member = format!("comp\t{size}\nmember\t{name}\t0\t{number}\n");
+    [lines, member.as_bytes()].concat()
+}
+
+#[test]
+fn path_names_the_member() {
+    assert_eq!(
+        path(BYTE, BITS),
+        "the record is an int in the source and bits in the destination: give both the same class"
+    );
+    let states = [BYTE, b"enum\t0\n"].concat();
+    assert_eq!(
+        path(
+            &record(&states, 1, 1, "valve"),
+            &record(BYTE, 1, 0, "valve")
+        ),
+        "`valve` is an enum in the source and an int in the destination: give both the same class"
+    );
+    let three = [BYTE, b"array\t0\t3\n"].concat();
+    let four = [BYTE, b"array\t0\t2\t2\n"].concat();
+    assert_eq!(
+        path(
+            &record(&three, 3, 1, "boost"),
+            &record(&four, 4, 1, "boost")
+        ),
+        "`boost` has 3 elements in the source and 4 in the destination: give both as many"
+    );
+    let inner = [BITS, b"array\t0\t3\ncomp\t3\nmember\tboost\t0\t1\n"].concat();
+    let other = [BYTE, b"array\t0\t3\ncomp\t3\nmember\tboost\t0\t1\n"].concat();
+    assert_eq!(
+        path(
+            &record(&inner, 3, 2, "engine"),
+            &record(&other, 3, 2, "engine")
+        ),
+        "`engine.boost[0]` is bits in the source and an int in the destination: give both the same class"
+    );
+}
+
+#[test]
+fn path_passes_members_that_the_source_lacks() {
+    let from = [BYTE, BITS, b"comp\t2\nmember\ta\t0\t0\nmember\tc\t1\t0\n"].concat();
+    let to = [
+        BYTE,
+        BITS,
+        b"comp\t3\nmember\tb\t0\t1\nmember\ta\t1\t0\nmember\tc\t2\t1\n",
+    ]
+    .concat();
+    assert!(path(&from, &to).starts_with("`c` is an int in the source and bits in"));
+}
+
+#[test]
+fn room_names_the_buffer() {
+    let said = |e: Error| e.to_string();
+    assert_eq!(
+        said(copying(BYTE, PAIR, 3, &[0; 2], 6)),
+        "ROOM (7): the source is too short: it holds 2 bytes and needs 3: lend a longer one"
+    );
+    assert_eq!(
+        said(copying(BYTE, PAIR, 3, &[0; 3], 5)),
+        "ROOM (7): the destination is too short: it holds 5 bytes and needs 6: lend a longer one"
+    );
+    let in_place = |buffer: usize, background: usize| {
+        let mut buffer = vec![0; buffer];
+        let background = vec![0; background];
+        convert_in_place(PAIR, BYTE, 3, Handling::Stop, &mut buffer, &background).unwrap_err()
+    };
+    assert_eq!(
+        said(in_place(5, 3)),
+        "ROOM (7): the buffer is too short: it holds 5 bytes and needs 6: lend a longer one"
+    );
+    assert_eq!(
+        said(in_place(6, 2)),
+        "ROOM (7): the background is too short: it holds 2 bytes and needs 3: lend a longer one"
+    );
+    let list = Converter::new().leaf_list_into(BITS, &mut [0; 22]);
+    assert_eq!(
+        said(list.unwrap_err()),
+        "ROOM (7): the list buffer is too short: it holds 22 bytes and needs 23: lend a longer one"
+    );
+}
+
+#[test]
+fn stop_names_the_leaf() {
+    let said = |from: &[u8], to: &[u8], count, source: &[u8]| {
+        copying(from, to, count, source, 4096).to_string()
+    };
+    assert_eq!(
+        said(BYTE, SIGNED, 2, &[5, 255]),
+        "STOP (8): record 1, byte 0: the number is above the destination's range: widen the destination, or clamp"
+    );
+    let (from, to) = (
+        record(&[SIGNED, b"array\t0\t3\n"].concat(), 3, 1, "boost"),
+        record(&[PAIR, b"array\t0\t3\n"].concat(), 6, 1, "boost"),
+    );
+    assert_eq!(
+        said(&from, &to, 1, &[5, 255, 7]),
+        "STOP (8): record 0, `boost[1]` at byte 2: the number is below the destination's range: widen the destination, or clamp"
+    );
+    let symbols = [BYTE, b"enum\t0\nvalue\topen\t0\n"].concat();
+    let valve = record(&symbols, 1, 1, "valve");
+    assert_eq!(
+        said(&valve, &valve, 1, &[7]),
+        "STOP (8): record 0, `valve` at byte 0: the number has no symbol, or its symbol is not in the destination: complete the enums, or clamp"
+    );
+}
+
+#[test]
+fn a_leaf_is_named_by_its_whole_way() {
+    let lines = |base: &[u8]| {
+        let rest = b"array\t0\t2\t3\ncomp\t7\nmember\tcells\t1\t1\narray\t2\t2\ncomp\t16\nmember\tmap\t2\t3\n";
+        [base, rest].concat()
+    };
+    let (from, to) = (lines(BYTE), lines(SIGNED));
+    let mut source = [0; 16];
+    source[2 + 7 + 1 + 5] = 200;
+    let e = copying(&from, &to, 1, &source, 16);
+    let Error::Stop { at, member, .. } = e else {
+        panic!("{e}")
+    };
+    assert_eq!((at, member.as_deref()), (15, Some("map[1].cells[1][2]")));
+}
+
+#[test]
+fn what_is_not_found_is_not_said() {
+    let explained = |answer: [u64; 8], call: &Call| {
+        let mut table = vec![0; TABLE_WORDS];
+        explain::outcome(answer, call, &mut table)
+            .unwrap_err()
+            .to_string()
+    };
+    let two = [BYTE, BITS].concat();
+    let sheets = sheets(&two, &two, 1);
+    let call = Call::Copying(&sheets, 1, 1);
+    // a line that this crate finds nothing wrong with
+    assert_eq!(
+        explained([3, 0, 2, 0, 0, 0, 0, 0], &call),
+        "SOURCE (3): line 2 of the source sheet is faulty, `bits\\t1\\tLE\\t0\\t8\\tzero\\tzero`: correct it by the rules of sheets and the lines before it"
+    );
+    // one that the sheet does not have
+    assert_eq!(
+        explained([4, 0, 3, 0, 0, 0, 0, 0], &call),
+        "DESTINATION (4): line 3 of the destination sheet is faulty: correct it by the rules of sheets and the lines before it"
+    );
+    assert_eq!(
+        explained([3, 0, 0, 0, 0, 0, 0, 0], &call),
+        "SOURCE (3): the source sheet is faulty: keep it within 16,384 bytes"
+    );
+    assert_eq!(
+        explained([5, 0, 0, 0, 0, 0, 0, 0], &call),
+        "PATH (5): no path from the source type to the destination type: give members of one name the same class, and arrays as many elements"
+    );
+    assert_eq!(
+        explained([7, 0, 0, 0, 0, 0, 0, 0], &call),
+        "ROOM (7): a buffer is too short for that many records, or for the list: lend a longer one"
+    );
+    // a byte at which no leaf starts
+    assert_eq!(
+        explained([8, 0, 0, 4, 9, 1, 0, 0], &call),
+        "STOP (8): record 4, byte 9: the number is above the destination's range: widen the destination, or clamp"
+    );
+}
+
+#[test]
+fn a_fault_that_the_library_places_elsewhere_is_not_explained() {
+    let sheet = [b"int\t9\n", BYTE].concat();
+    let answer = [3, 0, 2, 0, 0, 0, 0, 0];
+    let mut table = vec![0; TABLE_WORDS];
+    let e = explain::outcome(answer, &Call::Size(&sheet), &mut table).unwrap_err();
+    assert!(matches!(
+        e,
+        Error::Source {
+            line: 2,
+            text: Some(_),
+            rule: None,
+            only: true,
+        }
+    ));
+}
+
+#[test]
+fn unknown_numbers_and_kinds_are_said() {
+    let e = Error::from_answer([12, 0, 0, 0, 0, 0, 0, 0]);
+    assert_eq!((e.number(), e.name()), (12, "UNKNOWN"));
+    assert_eq!(
+        e.to_string(),
+        "UNKNOWN (12): a refusal that this version does not know, with the words [12, 0, 0, 0, 0, 0, 0, 0]: use a newer wrapper"
+    );
+    let Error::Stop { kind, .. } = Error::from_answer([8, 0, 0, 0, 0, 5, 0, 0]) else {
+        panic!("no STOP")
+    };
+    assert_eq!((kind, kind.number()), (Kind::Unknown(5), 5));
+    assert_eq!(
+        kind.to_string(),
+        "the number does not fit, for a reason that this version does not know (kind 5): clamp, or use a newer wrapper"
+    );
+}
+
+#[test]
+fn all_other_texts() {
+    let said = |number| Error::from_answer([number, 0, 0, 0, 0, 0, 0, 0]).to_string();
+    assert_eq!(
+        said(1),
+        "HANDLING (1): handling is neither 0 (clamp) nor 1 (stop): pass one of them"
+    );
+    assert_eq!(
+        said(2),
+        "TABLE (2): the working table is too short: lend at least 8,192 words"
+    );
+    assert_eq!(
+        said(6),
+        "COUNT (6): more than 65,536 records in one call: convert them in parts, as convert_log does"
+    );
+    assert_eq!(
+        said(9),
+        "RANGE (9): the argument or the layout breaks the rules of a layout: size 1 to 8 bytes, precision 1 to 64 bits, offset + precision within the size, no sign on bits"
+    );
+}

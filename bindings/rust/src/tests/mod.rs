@@ -1,0 +1,9 @@
+//! Tests of the calls, and of what is said of a refusal.
+mod calls;
+mod explained;
+mod rules;
+
+const BYTE: &[u8] = b"int\t1\tLE\t0\t8\tzero\tzero\tunsigned\n";
+const SIGNED: &[u8] = b"int\t1\tLE\t0\t8\tzero\tzero\tsigned\n";
+const PAIR: &[u8] = b"int\t2\tBE\t0\t16\tzero\tzero\tunsigned\n";
+const BITS: &[u8] = b"bits\t1\tLE\t0\t8\tzero\tzero\n";

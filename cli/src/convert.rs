@@ -1,0 +1,130 @@
+//! Converts a log.
+use crate::arguments::Arguments;
+use crate::failure::Failure;
+use crate::progress::Bar;
+use crate::{files, Command};
+use std::ffi::{OsStr, OsString};
+use std::fs::File;
+use std::io::{self, IsTerminal};
+use std::path::Path;
+use yirvagul::{Error, Handling, Input, LogConverter, LogError, Output};
+
+pub const COMMAND: Command = Command {
+    name: "convert",
+    about: "converts a log from the layout of one sheet to that of another",
+    help: "\
+usage: yirvagul convert FROM.sheet TO.sheet IN OUT [--clamp | --stop] [--background FILE] [--jobs N]
+
+  FROM.sheet         the layout sheet of the log
+  TO.sheet           the layout sheet of the output
+  IN                 the log: records of FROM.sheet, of any number
+  OUT                the output: as many records of TO.sheet
+  --stop             refuse if a number does not fit, and name the first; the default
+  --clamp            write the nearest number that fits, and count it as an exception
+  --background FILE  the bits that the log says nothing of: one record of TO.sheet, which then
+                     serves all, or as many as the log has; without it they are zero
+  --jobs N           convert on N threads, 1 to 64; the output is the same
+
+- is standard input or output. The output goes to a file beside OUT, which is renamed when it is
+complete: a refusal or a full disk leaves OUT as it was. (A run that is killed leaves the other
+file, .yirvagul-NUMBER-NUMBER.part.) If OUT is standard output or a device, all of IN is gone
+over before the first byte is written.
+
+At the end a line on standard error says how many records and exceptions there were.
+
+example:
+  yirvagul convert examples/rig.sheet examples/customer.sheet examples/rig.log out.log
+",
+    run,
+};
+
+fn run(words: Vec<OsString>) -> Result<(), Failure> {
+    let arguments = Arguments::new(words, &["--clamp", "--stop"], &["--background", "--jobs"])?;
+    let names = arguments.files(["FROM.sheet", "TO.sheet", "IN", "OUT"])?;
+    let [from, to, log, out] = names;
+    let background = arguments.option("--background");
+    let handling = handling(&arguments)?;
+    let jobs = jobs(arguments.option("--jobs"))?;
+    files::read_once(&[from, to, log, background.unwrap_or_default()])?;
+
+    let sheets = (files::read_sheet(from)?, files::read_sheet(to)?);
+    let (mut log_file, mut background_file) = (None, None);
+    let mut converter = LogConverter::new(&sheets.0, &sheets.1, handling).jobs(jobs);
+    if let Some(background) = background {
+        converter = converter.background(input(background, &mut background_file)?);
+    }
+    if io::stderr().is_terminal() {
+        let mut bar = Bar::new();
+        converter = converter.progress(move |progress| bar.show(progress));
+    }
+    let input = input(log, &mut log_file)?;
+    let mut out_file;
+    let output = if files::is_standard(out) {
+        out_file = files::standard_output()?;
+        Output::File(&mut out_file)
+    } else {
+        Output::Path(Path::new(out))
+    };
+    let totals = converter
+        .convert(input, output)
+        .map_err(|error| failure(error, names, background))?;
+    files::note(&format!(
+        "{}, {}",
+        many(totals.records, "record"),
+        many(totals.exceptions, "exception")
+    ));
+    Ok(())
+}
+
+fn handling(arguments: &Arguments) -> Result<Handling, Failure> {
+    match (arguments.has("--clamp"), arguments.has("--stop")) {
+        (true, true) => Err(Failure::usage("--clamp and --stop exclude each other")),
+        (true, false) => Ok(Handling::Clamp),
+        (false, _) => Ok(Handling::Stop),
+    }
+}
+
+fn jobs(value: Option<&OsStr>) -> Result<usize, Failure> {
+    let Some(value) = value else {
+        return Ok(1);
+    };
+    let jobs = value.to_str().and_then(|value| value.parse().ok());
+    jobs.filter(|jobs| (1..=64).contains(jobs)).ok_or_else(|| {
+        let said = value.to_string_lossy();
+        Failure::usage(format!("--jobs is {said}: give a number from 1 to 64"))
+    })
+}
+
+/// A file to read, or standard input, which is kept open in `standard`.
+fn input<'a>(name: &'a OsStr, standard: &'a mut Option<File>) -> Result<Input<'a>, Failure> {
+    if files::is_standard(name) {
+        return Ok(Input::File(standard.insert(files::standard_input()?)));
+    }
+    Ok(Input::Path(Path::new(name)))
+}
+
+/// Adds the names of the files that an error is about.
+fn failure(error: LogError, names: [&OsStr; 4], background: Option<&OsStr>) -> Failure {
+    let [from, to, log, _] = names.map(files::said);
+    match error {
+        LogError::Refused(error) => {
+            let about = match error {
+                Error::Source { .. } => from,
+                Error::Destination { .. } => to,
+                Error::Stop { .. } => log,
+                _ => format!("{from} to {to}"),
+            };
+            Failure::Refused(about, error)
+        }
+        LogError::Ragged { .. } => Failure::Io(format!("{log}: {error}")),
+        LogError::Background { .. } => {
+            let background = background.map(files::said).unwrap_or_default();
+            Failure::Io(format!("{background}: {error}"))
+        }
+        _ => Failure::Io(error.to_string()),
+    }
+}
+
+fn many(n: u64, what: &str) -> String {
+    format!("{n} {what}{}", if n == 1 { "" } else { "s" })
+}

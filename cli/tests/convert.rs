@@ -1,0 +1,381 @@
+//! `yirvagul convert`: what it writes, and what it leaves when it does not.
+mod common;
+
+use common::{Folder, CUSTOMER, LOG, ODD, RIG};
+use std::fs;
+use yirvagul::{convert_copying, Handling};
+
+const SHEETS: &str = "convert rig.sheet customer.sheet";
+
+/// What one call makes of a log over a background of zeros, for each 65,536 records; and its exceptions.
+fn one_call(log: &[u8]) -> (Vec<u8>, u64) {
+    let (mut out, mut exceptions) = (Vec::new(), 0);
+    for log in log.chunks(8 * 65_536) {
+        let records = log.len() / 8;
+        let mut part = vec![0; 7 * records];
+        exceptions += convert_copying(
+            RIG,
+            CUSTOMER,
+            records as u64,
+            Handling::Clamp,
+            log,
+            &mut part,
+        )
+        .unwrap();
+        out.extend(part);
+    }
+    (out, exceptions)
+}
+
+/// A log of three parts, with odd records at some places.
+fn long(odd: &[usize]) -> Vec<u8> {
+    let mut log = LOG.repeat(3200);
+    for record in odd {
+        log[8 * record..8 * record + 8].copy_from_slice(ODD);
+    }
+    log
+}
+
+const STOP: &str = "the number has no symbol, or its symbol is not in the destination: complete the enums, or clamp\n";
+
+#[test]
+fn the_example() {
+    let folder = Folder::new("example");
+    folder
+        .run(&format!("{SHEETS} rig.log out.log"))
+        .said(0, "48 records, 0 exceptions\n");
+    let (wanted, _) = one_call(LOG);
+    assert_eq!(folder.read("out.log"), wanted);
+    // shut, 100, 98, 110
+    assert_eq!(wanted[..7], [0, 100, 0, 98, 0, 110, 0]);
+    assert_eq!(folder.others(), ["out.log"]);
+}
+
+#[test]
+fn many_parts_equal_single_calls_on_any_number_of_threads() {
+    let folder = Folder::new("parts");
+    let log = long(&[5, 70_000]);
+    let (wanted, exceptions) = one_call(&log);
+    assert_eq!(exceptions, 2);
+    folder.write("long.log", &log);
+    for jobs in ["", "--jobs 1", "--jobs=2", "--jobs 7"] {
+        let ran = folder.run(&format!("{SHEETS} long.log out.log --clamp {jobs}"));
+        ran.said(0, "153600 records, 2 exceptions\n");
+        assert!(folder.read("out.log") == wanted, "{jobs}");
+        fs::remove_file(folder.path().join("out.log")).unwrap();
+    }
+}
+
+#[test]
+fn a_stop_names_the_first_and_leaves_the_output() {
+    let folder = Folder::new("stop");
+    folder.write("long.log", &long(&[150_000, 70_000, 70_001]));
+    folder.write("out.log", b"as it was");
+    for words in ["", "--stop", "--jobs 2", "--jobs 5 --stop"] {
+        folder
+            .run(&format!("{SHEETS} long.log out.log {words}"))
+            .said(
+                3,
+                &format!("yirvagul: long.log: STOP (8): record 70000, `valve` at byte 0: {STOP}"),
+            );
+        folder.run(&format!("{SHEETS} long.log - {words}")).said(
+            3,
+            &format!("yirvagul: long.log: STOP (8): record 70000, `valve` at byte 0: {STOP}"),
+        );
+    }
+    assert_eq!(folder.read("out.log"), b"as it was");
+    folder.run(&format!("{SHEETS} long.log new.log"));
+    assert_eq!(folder.others(), ["long.log", "out.log"]);
+}
+
+#[test]
+fn one_exception_is_said_in_the_singular() {
+    let folder = Folder::new("singular");
+    folder.write("odd.log", ODD);
+    let ran = folder.run(&format!("{SHEETS} odd.log - --clamp"));
+    ran.wrote(&one_call(ODD).0, "1 record, 1 exception\n");
+}
+
+#[test]
+fn standard_input_and_output() {
+    let folder = Folder::new("standard");
+    let (wanted, _) = one_call(LOG);
+    let closing = "48 records, 0 exceptions\n";
+    // pipes
+    folder
+        .run(&format!("{SHEETS} rig.log -"))
+        .wrote(&wanted, closing);
+    folder
+        .run_with(&format!("{SHEETS} - -"), LOG)
+        .wrote(&wanted, closing);
+    folder
+        .run_with(&format!("{SHEETS} - out.log"), LOG)
+        .said(0, closing);
+    assert_eq!(folder.read("out.log"), wanted);
+    folder
+        .run_with("convert - customer.sheet rig.log -", RIG)
+        .wrote(&wanted, closing);
+    folder
+        .run_with("convert rig.sheet - rig.log -", CUSTOMER)
+        .wrote(&wanted, closing);
+    // plain files
+    folder
+        .shell("$y convert rig.sheet customer.sheet - - <rig.log >out2.log")
+        .said(0, closing);
+    assert_eq!(folder.read("out2.log"), wanted);
+    // a pipe by its name
+    folder
+        .shell("$y convert rig.sheet customer.sheet <(cat rig.log) out3.log")
+        .said(0, closing);
+    assert_eq!(folder.read("out3.log"), wanted);
+    folder
+        .shell("$y convert rig.sheet customer.sheet rig.log /dev/stdout | cat")
+        .wrote(&wanted, closing);
+    // behind what is there already
+    folder
+        .shell("(printf head; $y convert rig.sheet customer.sheet rig.log -) >out4.log")
+        .said(0, closing);
+    assert_eq!(folder.read("out4.log"), [b"head", &wanted[..]].concat());
+}
+
+#[test]
+fn a_long_log_through_pipes() {
+    let folder = Folder::new("pipes");
+    let log = long(&[]);
+    let (wanted, _) = one_call(&log);
+    for jobs in ["", "--jobs 3"] {
+        folder
+            .run_with(&format!("{SHEETS} - - {jobs}"), &log)
+            .wrote(&wanted, "153600 records, 0 exceptions\n");
+    }
+}
+
+#[test]
+fn a_log_can_be_its_own_output() {
+    let folder = Folder::new("itself");
+    folder
+        .run(&format!("{SHEETS} rig.log rig.log"))
+        .said(0, "48 records, 0 exceptions\n");
+    assert_eq!(folder.read("rig.log"), one_call(LOG).0);
+}
+
+#[test]
+fn an_empty_log() {
+    let folder = Folder::new("empty");
+    folder.write("empty.log", b"");
+    folder
+        .run(&format!("{SHEETS} empty.log out.log"))
+        .said(0, "0 records, 0 exceptions\n");
+    assert_eq!(folder.read("out.log"), b"");
+}
+
+#[test]
+fn refused_sheets() {
+    let folder = Folder::new("sheets");
+    folder.write("bad.sheet", b"int\t2\tBE\t4\t13\tzero\tzero\tunsigned\n");
+    folder.write("byte.sheet", b"int\t1\tLE\t0\t8\tzero\tzero\tunsigned\n");
+    folder.write("out.log", b"as it was");
+    let fault = "sheet is faulty, `int\\t2\\tBE\\t4\\t13\\tzero\\tzero\\tunsigned`: offset 4 and precision 13 make 17 bits, above the 16 of 2 bytes: make the size larger, or one of them smaller\n";
+    folder
+        .run("convert bad.sheet customer.sheet rig.log out.log")
+        .said(
+            3,
+            &format!("yirvagul: bad.sheet: SOURCE (3): line 1 of the source {fault}"),
+        );
+    folder
+        .run("convert rig.sheet bad.sheet rig.log out.log")
+        .said(
+            3,
+            &format!("yirvagul: bad.sheet: DESTINATION (4): line 1 of the destination {fault}"),
+        );
+    folder
+        .run("convert rig.sheet byte.sheet rig.log out.log")
+        .said(3, "yirvagul: rig.sheet to byte.sheet: PATH (5): no path from the source type to the destination type: the record is a compound in the source and an int in the destination: give both the same class\n");
+    // before the log is looked for
+    assert_eq!(
+        folder
+            .run("convert bad.sheet customer.sheet none out.log")
+            .status,
+        3
+    );
+    assert_eq!(folder.read("out.log"), b"as it was");
+}
+
+#[test]
+fn a_ragged_end() {
+    let folder = Folder::new("ragged");
+    folder.write("ragged.log", &LOG[..100]);
+    folder.write("out.log", b"as it was");
+    let said = "the log has 100 bytes, which is no multiple of its record's 8: complete the last record or cut its 4 bytes off, or correct the sheet\n";
+    for out in ["out.log", "-"] {
+        folder
+            .run(&format!("{SHEETS} ragged.log {out}"))
+            .said(1, &format!("yirvagul: ragged.log: {said}"));
+        folder
+            .run_with(&format!("{SHEETS} - {out}"), &LOG[..100])
+            .said(1, &format!("yirvagul: standard input: {said}"));
+    }
+    assert_eq!(folder.read("out.log"), b"as it was");
+    assert_eq!(folder.others(), ["out.log", "ragged.log"]);
+}
+
+/// The customer's record with a gap, so that a background shows.
+const GAP: &[u8] = b"int\t1\tLE\t0\t8\tzero\tzero\tunsigned\nenum\t0\nvalue\tshut\t0\nvalue\topen\t1\ncomp\t3\nmember\tvalve\t1\t1\n";
+
+fn valves(background: impl Fn(usize) -> [u8; 2]) -> Vec<u8> {
+    let records = LOG.chunks(8).enumerate();
+    records
+        .flat_map(|(i, record)| {
+            let [before, behind] = background(i);
+            [before, 1 - record[7], behind]
+        })
+        .collect()
+}
+
+#[test]
+fn backgrounds() {
+    let folder = Folder::new("backgrounds");
+    folder.write("gap.sheet", GAP);
+    folder.write("one", &[7, 8, 9]);
+    let each: Vec<u8> = (0..144).collect();
+    folder.write("each", &each);
+    let closing = "48 records, 0 exceptions\n";
+    let words = "convert rig.sheet gap.sheet";
+    let over_each = valves(|i| [3 * i as u8, 3 * i as u8 + 2]);
+    folder
+        .run(&format!("{words} rig.log -"))
+        .wrote(&valves(|_| [0, 0]), closing);
+    folder
+        .run(&format!("{words} rig.log - --background one"))
+        .wrote(&valves(|_| [7, 9]), closing);
+    folder
+        .run(&format!("{words} --background=each rig.log -"))
+        .wrote(&over_each, closing);
+    folder
+        .run_with(&format!("{words} rig.log - --background -"), &each)
+        .wrote(&over_each, closing);
+    folder
+        .run_with(&format!("{words} - out --background each"), LOG)
+        .said(0, closing);
+    assert_eq!(folder.read("out"), over_each);
+}
+
+#[test]
+fn a_background_of_another_length() {
+    let folder = Folder::new("background");
+    folder.write("gap.sheet", GAP);
+    folder.write("out.log", b"as it was");
+    for length in [0, 2, 4, 141, 147] {
+        folder.write("other", &vec![0; length]);
+        let ran = folder.run("convert rig.sheet gap.sheet rig.log out.log --background other");
+        ran.said(1, &format!("yirvagul: other: the background has {length} bytes: give one destination record, which is 3 bytes, or as many as the log has, which is 48 x 3 bytes\n"));
+    }
+    assert_eq!(folder.read("out.log"), b"as it was");
+}
+
+#[test]
+fn files_that_are_not_there() {
+    let folder = Folder::new("missing");
+    let none = "No such file or directory (os error 2)\n";
+    for (words, said) in [
+        ("none customer.sheet rig.log out", "cannot read none: "),
+        ("rig.sheet none rig.log out", "cannot read none: "),
+        ("rig.sheet customer.sheet none out", "cannot read none: "),
+        (
+            "rig.sheet customer.sheet rig.log out --background none",
+            "cannot read none: ",
+        ),
+        (
+            "rig.sheet customer.sheet rig.log none/out",
+            "cannot write none/out: ",
+        ),
+    ] {
+        folder
+            .run(&format!("convert {words}"))
+            .said(1, &format!("yirvagul: {said}{none}"));
+    }
+    folder
+        .run(&format!("{SHEETS} . out"))
+        .said(1, "yirvagul: cannot read .: Is a directory (os error 21)\n");
+    folder.run(&format!("{SHEETS} rig.log .")).said(
+        1,
+        "yirvagul: cannot write .: Is a directory (os error 21)\n",
+    );
+    assert_eq!(folder.others(), [""; 0]);
+}
+
+#[test]
+fn usage() {
+    let folder = Folder::new("usage");
+    let see = "see `yirvagul convert --help`\n";
+    for (words, said) in [
+        (
+            "",
+            "it takes 4 files, FROM.sheet TO.sheet IN OUT, and 0 are there",
+        ),
+        (
+            "rig.sheet customer.sheet rig.log",
+            "it takes 4 files, FROM.sheet TO.sheet IN OUT, and 3 are there",
+        ),
+        (
+            "rig.sheet customer.sheet rig.log out more",
+            "it takes 4 files, FROM.sheet TO.sheet IN OUT, and 5 are there",
+        ),
+        (
+            "rig.sheet customer.sheet rig.log out --clmap",
+            "there is no option --clmap",
+        ),
+        (
+            "rig.sheet customer.sheet rig.log out -j",
+            "there is no option -j",
+        ),
+        (
+            "rig.sheet customer.sheet rig.log out --clamp --stop",
+            "--clamp and --stop exclude each other",
+        ),
+        (
+            "rig.sheet customer.sheet rig.log out --clamp=1",
+            "there is no option --clamp=1",
+        ),
+        (
+            "rig.sheet customer.sheet rig.log out --jobs",
+            "--jobs has no value",
+        ),
+        (
+            "rig.sheet customer.sheet rig.log out --jobs 0",
+            "--jobs is 0: give a number from 1 to 64",
+        ),
+        (
+            "rig.sheet customer.sheet rig.log out --jobs 65",
+            "--jobs is 65: give a number from 1 to 64",
+        ),
+        (
+            "rig.sheet customer.sheet rig.log out --jobs=x",
+            "--jobs is x: give a number from 1 to 64",
+        ),
+        (
+            "rig.sheet customer.sheet rig.log out --jobs 2 --jobs 3",
+            "--jobs is there twice",
+        ),
+        ("- - rig.log out", "standard input (-) is there twice"),
+        (
+            "rig.sheet customer.sheet - out --background -",
+            "standard input (-) is there twice",
+        ),
+    ] {
+        folder
+            .run(&format!("convert {words}"))
+            .said(2, &format!("yirvagul: {said}: {see}"));
+    }
+    assert_eq!(folder.others(), [""; 0]);
+}
+
+#[test]
+fn a_file_whose_name_is_like_an_option() {
+    let folder = Folder::new("names");
+    folder.write("--clamp", LOG);
+    folder
+        .run("convert rig.sheet customer.sheet -- --clamp --stop")
+        .said(0, "48 records, 0 exceptions\n");
+    assert_eq!(folder.read("--stop"), one_call(LOG).0);
+}
