@@ -349,11 +349,13 @@ def check_sheets(page, text):
 
 
 def check_crates(page, text):
-    """The tables of crates name those of crates.txt, each once."""
+    """The tables of crates name those of crates.txt, each once, and so does the drawing."""
     listed = re.findall(r"^(\w+):", read("crates.txt"), re.M)
     part = text[text.index("## The crates") : text.index("Beside the crates:")]
     named = [name for line in re.findall(r"^\| (`.*?) \|", part, re.M) for name in spans(line)]
     expect(sorted(named) == sorted(listed), page, f"lacks {sorted(set(listed) - set(named))} of crates.txt, and names {sorted(set(named) - set(listed))} beside it")
+    drawn = set(re.findall(r"[a-z]+(?:_[a-z]+)+", blocks(text, "text")[0]))
+    expect(drawn <= set(listed), page, f"draws {sorted(drawn - set(listed))}, which are not in crates.txt")
 
 
 # ---- CHANGELOG.md
