@@ -1,4 +1,5 @@
-"""The seven classroom errors, each beside the library's result on the same bytes; then which bits of a source record the result turns on.
+"""One record of a rig's log, read leaf by leaf; the seven classroom errors, each beside the library's result on the same bytes; and which bits of a
+source record the result turns on.
 
 docs/TEACHING.md explains every line that this prints. The converters marked WRONG are wrong on purpose, and only as long as their example needs.
 """
@@ -30,21 +31,49 @@ def replaced(source, destination, count, log, background):
     return buffer.hex(" ")
 
 
-def show(title, log, wrong, right):
+def show(log, wrong, right):
     """The bytes that go in, and those that come out of either converter."""
-    print(title, f"wrong: {log.hex(' ')} -> {wrong.hex(' ')}", f"right: {log.hex(' ')} -> {right}", sep="\n")
+    print(f"wrong: {log.hex(' ')} -> {wrong.hex(' ')}", f"right: {log.hex(' ')} -> {right}", sep="\n")
 
 
 BYTE = "int 1 LE 0 8 zero zero unsigned"
 
 
+# ---- the record of the page, leaf by leaf
+
+PRESSURE = "int 2 BE 4 12 zero zero unsigned"
+VALVE = "int 1 LE 0 8 zero zero signed"
+
+# The pressures 100, 2000 and 4095 with something in their pad bits, something in the gap, and the valve shut.
+RECORD = bytes.fromhex("06 43 7d 0c ff f5 a7 01")
+
+
+def number(layout, leaf):
+    """The number in the bytes of one leaf, as the library reads it: converted into 64 bits, which hold it whatever it is."""
+    out = bytearray(8)
+    convert_copying(sheet(layout), sheet("int 8 LE 0 64 zero zero signed"), 1, Handling.STOP, leaf, out)
+    return int.from_bytes(out, "little", signed=True)
+
+
+def leaves(record):
+    """The leaves of a record of the rig: name, layout and bytes."""
+    return [*((f"boost {i}", PRESSURE, record[2 * i : 2 * i + 2]) for i in range(3)), ("valve", VALVE, record[7:])]
+
+
+def reading():
+    print("leaf     bytes  container  number  pad")
+    for name, layout, leaf in leaves(RECORD):
+        pad = f"{leaf[1] & 0xF:x}" if layout == PRESSURE else "none"
+        print(f"{name:7}  {leaf.hex(' '):5}  {leaf.hex():9}  {number(layout, leaf):<6}  {pad}")
+
+
 # ---- 1: a signed number of 12 bits, with four bits free above it
 
 
-def sign_of_the_container(log):
-    """WRONG: the sign is bit 15, the container's top bit. The number's own top bit is bit 11."""
+def sign_of_the_container(log, offset=0):
+    """WRONG: the sign is bit 15, the container's top bit. At offset 0 the number's own top bit is bit 11."""
     container = int.from_bytes(log, "big")
-    number = container & 0xFFF
+    number = container >> offset & 0xFFF
     if container >> 15 == 1:
         number -= 1 << 12
     return number.to_bytes(2, "big", signed=True)
@@ -54,7 +83,9 @@ def sign():
     source = sheet("int 2 BE 0 12 zero zero signed")
     destination = sheet("int 2 BE 0 16 zero zero signed")
     log = bytes.fromhex("0f 38")
-    show("1. Sign taken from the container's top bit", log, sign_of_the_container(log), copied(source, destination, 1, log, bytes(2)))
+    show(log, sign_of_the_container(log), copied(source, destination, 1, log, bytes(2)))
+    source, log = sheet("int 2 BE 4 12 zero zero signed"), bytes.fromhex("f3 80")
+    show(log, sign_of_the_container(log, 4), copied(source, destination, 1, log, bytes(2)))
 
 
 # ---- 2: three records of 1 byte become records of 2 bytes in the same buffer
@@ -72,7 +103,7 @@ def growing():
     source = sheet(BYTE)
     destination = sheet("int 2 BE 0 16 zero zero unsigned")
     log = bytes.fromhex("0a 0b 0c 77 77 77")
-    show("2. Growing in place from the first record", log, from_the_first_record(log), replaced(source, destination, 3, log, bytes(6)))
+    show(log, from_the_first_record(log), replaced(source, destination, 3, log, bytes(6)))
 
 
 # ---- 3: two members that the destination has in the other order
@@ -90,7 +121,7 @@ def members():
     source = sheet(BYTE, "comp 3", "member boost 0 0", "member oil 2 0")
     destination = sheet(BYTE, "comp 2", "member oil 0 0", "member boost 1 0")
     log = bytes.fromhex("64 00 1e")
-    show("3. Members paired by position", log, by_position(log), copied(source, destination, 1, log, bytes(2)))
+    show(log, by_position(log), copied(source, destination, 1, log, bytes(2)))
 
 
 # ---- 4: the source has ones above the number, the destination wants zeros there
@@ -107,7 +138,9 @@ def pads():
     source = sheet("int 2 LE 0 12 zero one unsigned")
     destination = sheet("int 2 BE 0 12 zero zero unsigned")
     log = bytes.fromhex("05 f0")
-    show("4. Pads taken from the source's pads", log, with_the_source_pads(log), copied(source, destination, 1, log, bytes(2)))
+    show(log, with_the_source_pads(log), copied(source, destination, 1, log, bytes(2)))
+    log = bytes.fromhex("05 00")
+    show(log, with_the_source_pads(log), copied(source, destination, 1, log, bytes(2)))
 
 
 # ---- 5: two enums with the same symbols and other numbers
@@ -122,7 +155,7 @@ def symbols():
     source = sheet(BYTE, "enum 0", "value open 0", "value shut 1")
     destination = sheet(BYTE, "enum 0", "value shut 0", "value open 1")
     log = bytes.fromhex("00 01 00")
-    show("5. Enum numbers copied, not symbols", log, numbers_copied(log), copied(source, destination, 3, log, bytes(3)))
+    show(log, numbers_copied(log), copied(source, destination, 3, log, bytes(3)))
 
 
 # ---- 6: the numbers 5, 6 and 300 into single bytes, with handling stop
@@ -143,7 +176,9 @@ def stop():
     source = sheet("int 2 LE 0 16 zero zero unsigned")
     destination = sheet(BYTE)
     log = bytes.fromhex("05 00 06 00 2c 01")
-    show("6. A STOP found after earlier records were written", log, stops_while_writing(log), replaced(source, destination, 3, log, bytes(3)))
+    show(log, stops_while_writing(log), replaced(source, destination, 3, log, bytes(3)))
+    first = stops_while_writing(log)[:2]
+    print(f"       after the wrong one record 0 is {first.hex(' ')}, that is {number('int 2 LE 0 16 zero zero unsigned', first)}")
 
 
 # ---- 7: three records of 2 bytes become records of 1 byte in the same buffer
@@ -161,35 +196,22 @@ def tail():
     source = sheet(BYTE, "comp 2", "member boost 0 0", "member trim 1 0")
     destination = sheet(BYTE, "comp 1", "member boost 0 0")
     log = bytes.fromhex("64 11 65 12 66 13")
-    show("7. The shrunk tail still holding source bytes", log, tail_left(log), replaced(source, destination, 3, log, bytes(3)))
+    show(log, tail_left(log), replaced(source, destination, 3, log, bytes(3)))
 
 
 # ---- which bits of the source could have changed the result?
 
-RIG = sheet(
-    "int 2 BE 4 12 zero zero unsigned",
-    "int 1 LE 0 8 zero zero signed",
-    "enum 1",
-    "value open 0",
-    "value shut 1",
-    "array 0 3",
-    "comp 8",
-    "member boost 0 3",
-    "member valve 7 2",
-)
+RIG = sheet(PRESSURE, VALVE, "enum 1", "value open 0", "value shut 1", "array 0 3", "comp 8", "member boost 0 3", "member valve 7 2")
 WIDE = sheet("int 2 LE 0 16 zero zero unsigned", "array 0 3", "comp 6", "member boost 0 1")
 NARROW = sheet(BYTE, "array 0 3", "comp 3", "member boost 0 1")
 
-# The pressures 100, 2000 and 4095 with something in their pad bits, something in the gap, and the valve shut.
-RECORD = bytes.fromhex("06 43 7d 0c ff f5 a7 01")
 
-
-def converter(destination, size):
-    """The library as a function of one record of the rig: it gives the count of exceptions and the destination record."""
+def converter(source, destination, size):
+    """The library as a function of one source record: it gives the count of exceptions and the destination record."""
 
     def convert(record):
         out = bytearray(size)
-        return convert_copying(RIG, destination, 1, Handling.CLAMP, record, out), out
+        return convert_copying(source, destination, 1, Handling.CLAMP, record, out), out
 
     return convert
 
@@ -206,23 +228,42 @@ def flips_that_show(convert, record):
     return found
 
 
-def significant_bits(at, size, offset, precision):
-    """The significant bits of a big-endian leaf that starts at byte `at`: bit 0 of its container is bit 0 of its last byte."""
-    return {(at + size - 1 - b // 8, b % 8) for b in range(offset, offset + precision)}
+def significant_bits(at, size, order, offset, precision):
+    """The significant bits of a leaf that starts at byte `at`. Bit 0 of its container is bit 0 of its first byte (LE) or of its last (BE)."""
+    bits = range(offset, offset + precision)
+    if order == "LE":
+        return {(at + b // 8, b % 8) for b in bits}
+    return {(at + size - 1 - b // 8, b % 8) for b in bits}
 
 
-def marks(byte, bits):
-    """A mark for each bit of a byte, the highest first: # where it is one of the bits, a dot where not."""
-    return "".join("#" if (byte, bit) in bits else "." for bit in reversed(range(8)))
+def marks(byte, bits, yes="#", no="."):
+    """A mark for each bit of a byte, the highest first."""
+    return "".join(yes if (byte, bit) in bits else no for bit in reversed(range(8)))
+
+
+def print_picture(record, rows):
+    """The record's bytes side by side: their places, hex and bits, and below them rows of marks, each of eight for a byte."""
+    print("byte", *(f"{byte:8}" for byte in range(len(record))))
+    print("hex ", *(f"      {value:02x}" for value in record))
+    print("bits", *(f"{value:08b}" for value in record))
+    for name, row in rows.items():
+        print(f"{name:4}", *row)
+
+
+def expect(shown, significant):
+    if shown != significant:
+        sys.exit("the flips that show are not the significant bits of the matched leaves")
 
 
 def flips():
-    matched = set().union(*(significant_bits(at, 2, 4, 12) for at in (0, 2, 4)))
-    wide, narrow = converter(WIDE, 6), converter(NARROW, 3)
+    matched = set().union(*(significant_bits(at, 2, "BE", 4, 12) for at in (0, 2, 4)))
+    boosts = [marks(byte, matched, "N", "p") for byte in range(6)]
+    print_picture(RECORD, {"": [*boosts, "g" * 8, "u" * 8]})
+
+    wide, narrow = converter(RIG, WIDE, 6), converter(RIG, NARROW, 3)
     show_wide, show_narrow = flips_that_show(wide, RECORD), flips_that_show(narrow, RECORD)
-    if show_wide != matched:
-        sys.exit("the flips that show are not the significant bits of the matched leaves")
-    print("Flips of one source bit that show in the result: pressures into 16 bits; into 8 bits, clamped")
+    expect(show_wide, matched)
+    print("\nFlips of one source bit that show in the result: pressures into 16 bits; into 8 bits, clamped")
     for byte, value in enumerate(RECORD):
         print(f"byte {byte}: {value:02x} {value:08b} {marks(byte, show_wide)} {marks(byte, show_narrow)}")
     count, out = wide(RECORD)
@@ -231,6 +272,41 @@ def flips():
     print(f"8 bits: {out.hex(' ')}, count {count}; {len(show_narrow)} flips show, clamping hides the other {len(matched - show_narrow)}")
 
 
+# ---- the same two bytes in either order
+
+ORDERS = {"LE": "int 2 LE 2 10 zero zero unsigned", "BE": "int 2 BE 2 10 zero zero unsigned"}
+OIL = bytes.fromhex("a3 f6")
+
+
+def orders():
+    rows = {}
+    for order, layout in ORDERS.items():
+        significant = significant_bits(0, 2, order, 2, 10)
+        expect(flips_that_show(converter(sheet(layout), sheet("int 2 LE 0 16 zero zero unsigned"), 2), OIL), significant)
+        rows[order] = [marks(byte, significant, "N", "p") for byte in range(2)]
+    print_picture(OIL, rows)
+    print(", ".join(f"{order}: {number(layout, OIL)}" for order, layout in ORDERS.items()))
+
+
+ERRORS = {
+    "Sign taken from the container's top bit": sign,
+    "Growing in place from the first record": growing,
+    "Members paired by position": members,
+    "Pads taken from the source's pads": pads,
+    "Enum numbers copied, not symbols": symbols,
+    "A STOP found after earlier records were written": stop,
+    "The shrunk tail still holding source bytes": tail,
+}
+
+
+def errors():
+    for i, (title, run) in enumerate(ERRORS.items(), 1):
+        print(f"{i}. {title}")
+        run()
+
+
 if __name__ == "__main__":
-    for part in (sign, growing, members, pads, symbols, stop, tail, flips):
+    reading()
+    for part in (orders, errors, flips):
+        print()
         part()

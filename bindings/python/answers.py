@@ -1,0 +1,119 @@
+"""The answers to the questions for the class (docs/QUESTIONS.md), run through the library and through wrong converters. docs/ANSWERS.md explains them."""
+
+import classroom
+from classroom import BYTE, converter, copied, expect, flips_that_show, leaves, marks, number, print_picture, replaced, sheet, significant_bits
+from yirvagul import Handling, Refusal, convert_copying
+
+
+def bit_0():
+    convert = converter(classroom.RIG, classroom.WIDE, 6)
+    print("as it was:              ", convert(classroom.RECORD)[1].hex(" "))
+    for bit in (0, 4):
+        flipped = bytearray(classroom.RECORD)
+        flipped[3] ^= 1 << bit
+        print(f"bit {bit} of byte 3 flipped:", convert(flipped)[1].hex(" "))
+
+
+def another_record():
+    record = bytes.fromhex("00 0f 80 00 7f ff 00 00")
+    print(record.hex(" "))
+    for sign in ("unsigned", "signed"):
+        numbers = (number(layout.replace("unsigned", sign), leaf) for _, layout, leaf in leaves(record)[:3])
+        print(f"boost {sign}:", *numbers)
+    print("valve:", number(classroom.VALVE, record[7:]))
+
+
+def minus_200():
+    """The way of error 1, for 12 bits at offset 1: the sign is bit 15."""
+    source, destination = sheet("int 2 BE 0 16 zero zero signed"), sheet("int 2 BE 1 12 zero zero signed")
+    out = bytearray(2)
+    convert_copying(source, destination, 1, Handling.STOP, (-200).to_bytes(2, "big", signed=True), out)
+    container = int.from_bytes(out, "big")
+    wrong = (container >> 1 & 0xFFF) - (container >> 15 << 12)
+    print(f"-200 -> {out.hex(' ')}")
+    print(f"right: {number('int 2 BE 1 12 zero zero signed', out)}, wrong: {wrong}")
+
+
+def shrinking():
+    """WRONG: from the last record down, a record is read after its bytes were written over."""
+    log = bytes.fromhex("00 0a 00 0b 00 0c")
+    for name, fit in (("cut", lambda n: n & 0xFF), ("clamp", lambda n: min(n, 255))):
+        buffer, read = bytearray(log), []
+        for i in reversed(range(3)):
+            record = buffer[2 * i : 2 * i + 2]
+            buffer[i] = fit(int.from_bytes(record, "big"))
+            read.append(record.hex(" "))
+        print(f"wrong, {name + ':':6} {log.hex(' ')} -> {buffer[:3].hex(' ')}, having read {', then '.join(read)}")
+    right = replaced(sheet("int 2 BE 0 16 zero zero unsigned"), sheet(BYTE), 3, log, bytes(3))
+    print(f"right:        {log.hex(' ')} -> {right}")
+
+
+def kept_pads():
+    print("5 over c3:", copied(sheet(BYTE), sheet("int 1 LE 2 4 keep keep unsigned"), 1, b"\x05", b"\xc3"))
+
+
+def all_ones():
+    source = sheet(BYTE, "enum 0", "value open 0", "value shut 1")
+    destination = sheet(BYTE, "enum 0", "value open 255", "value shut 1")
+    for log in (b"\x00", b"\x07"):
+        count, out = converter(source, destination, 1)(log)
+        print(f"{log.hex()} -> {out.hex()}, count {count}")
+
+
+def there_and_back():
+    """Each wrong converter, and the same error on the way back. What it does right is written as plainly as can be."""
+
+    def narrowed(log, fit):
+        return (fit(int.from_bytes(log, "big", signed=True)) & 0xFFF).to_bytes(2, "big")
+
+    def position_back(log):
+        return bytes([log[0], 0, log[1]])
+
+    def pads_back(log):
+        return int.from_bytes(log, "big").to_bytes(2, "little")
+
+    def shrunk(log):
+        return bytes(log[1::2])
+
+    def grown(log):
+        return b"".join(bytes([log[i], 0]) for i in range(3))
+
+    ways = {
+        "1, cutting": ("0f 38", classroom.sign_of_the_container, lambda log: narrowed(log, int)),
+        "1, clamping": ("0f 38", classroom.sign_of_the_container, lambda log: narrowed(log, lambda n: max(-2048, min(2047, n)))),
+        "2": ("0a 0b 0c 77 77 77", classroom.from_the_first_record, shrunk),
+        "3": ("64 00 1e", classroom.by_position, position_back),
+        "4": ("05 f0", classroom.with_the_source_pads, pads_back),
+        "5": ("00 01 00", classroom.numbers_copied, classroom.numbers_copied),
+        "6": ("05 00 06 00 07 00", classroom.stops_while_writing, grown),
+        "7": ("64 11 65 12 66 13", classroom.tail_left, grown),
+    }
+    for name, (log, there, back) in ways.items():
+        middle = there(bytes.fromhex(log))
+        print(f"{name + ':':12} {log} -> {middle.hex(' ')} -> {back(middle).hex(' ')}")
+
+
+def behind_the_stop():
+    for log in ("05 00 06 00 2c 01 07 00", "05 00 06 00 2c 01 90 01"):
+        try:
+            copied(sheet("int 2 LE 0 16 zero zero unsigned"), sheet(BYTE), 4, bytes.fromhex(log), bytes(4))
+        except Refusal as refused:
+            print(f"{log}: {refused}")
+
+
+def three_bytes():
+    leaf, rows, numbers = bytes.fromhex("4e 25 93"), {}, []
+    for order in ("LE", "BE"):
+        layout, significant = f"int 3 {order} 5 12 zero zero unsigned", significant_bits(0, 3, order, 5, 12)
+        expect(flips_that_show(converter(sheet(layout), sheet("int 2 LE 0 16 zero zero unsigned"), 2), leaf), significant)
+        rows[order] = [marks(byte, significant, "N", "p") for byte in range(3)]
+        numbers.append(f"{order}: {number(layout, leaf)}")
+    print_picture(leaf, rows)
+    print(", ".join(numbers))
+
+
+if __name__ == "__main__":
+    bit_0()
+    for part in (another_record, minus_200, shrinking, kept_pads, all_ones, there_and_back, behind_the_stop, three_bytes):
+        print()
+        part()
