@@ -5,8 +5,8 @@ ghost use Rattle.runs.specs.Run.{tableAfter};
 ghost use Rattle.sheet.specs.Sheet.{sheetOf};
 ghost use Rattle.record_size.specs.RecordSize.{sizeAnswer, answerOf};
 use answer::Answer;
-use sheet::SheetRead;
 use reading::read_sheet;
+use sheet::SheetRead;
 use table::read::type_word;
 use table::store::clear;
 
