@@ -16,12 +16,12 @@ use Rattle.datatype.proofs.Matches.{size-most}
 use Rattle.table.specs.Table.{sizeWord, decode, typeAt}
 use Rattle.table.specs.Words.{Reads}
 use Rattle.table.proofs.Made.{node-size}
-use Rattle.sheet.specs.declared.SheetRead.{SheetRead}
-use Rattle.sheet.specs.declared.SheetRead.the-variants.{Types, Faulty}
+use Rattle.sheet_steps.specs.declared.SheetRead.{SheetRead}
+use Rattle.sheet_steps.specs.declared.SheetRead.the-variants.{Types, Faulty}
 use Rattle.sheet.specs.Sheet.{Sheet, sheetOf}
 use Rattle.sheet.specs.Sheet.Sheet.{ofType, faultyAt}
-use Rattle.sheet.specs.Read.{ReadsSheet}
-use Rattle.sheet.proofs.Types.{sheet-fault, sheet-type, type-formed}
+use Rattle.sheet_steps.specs.Read.{ReadsSheet}
+use Rattle.sheet_steps.proofs.Types.{sheet-fault, sheet-type, type-formed}
 use Rattle.runs.specs.Run.{cleared, tableAfter}
 use Rattle.runs.proofs.Table.{half-cleared}
 use Rattle.leaves.specs.LeafList.{leafLines, leafList, listAnswer, answerOf, listAfter}

@@ -13,7 +13,7 @@ use crate::leaf::lines_len;
 use crate::leaf::put_list;
 use answer::Answer;
 use reading::read_sheet;
-use sheet::SheetRead;
+use sheet_steps::SheetRead;
 use table::HALF;
 use table::SIZE;
 use table::TABLE;

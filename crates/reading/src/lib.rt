@@ -5,8 +5,8 @@ ghost use Prim.Native.Nat.{_≤_};
 ghost use lib.ListN.{length};
 ghost use Rattle.line.specs.Read.{nextAfter, namesWithin};
 ghost use Rattle.table.specs.Table.{Holds};
-ghost use Rattle.sheet.specs.Judged.{soFarAt, Judges};
-ghost use Rattle.sheet.specs.Read.{readJudged, ReadsLines, ReadsSheet};
+ghost use Rattle.sheet_steps.specs.Judged.{soFarAt, Judges};
+ghost use Rattle.sheet_steps.specs.Read.{readJudged, ReadsLines, ReadsSheet};
 use judging::judge_array;
 use judging::judge_atomic;
 use judging::judge_compound;
@@ -16,9 +16,9 @@ use judging::judge_value;
 use line::Line;
 use line::ReadLine;
 use line_reading::read_line;
-use sheet::Judged;
-use sheet::MOST_TEXT;
-use sheet::SheetRead;
+use sheet_steps::Judged;
+use sheet_steps::MOST_TEXT;
+use sheet_steps::SheetRead;
 
 // What a line that was read adds to the table.
 fn judge_line(w: &mut [u32], t: &[u8], n: u32, m: u32, r: ReadLine) -> Judged

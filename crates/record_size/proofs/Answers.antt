@@ -11,13 +11,13 @@ use Rattle.answer.specs.declared.Answer.the-variants.{Done, Table, Source}
 use Rattle.datatype.specs.Datatype.{size}
 use Rattle.table.specs.Table.{sizeWord, typeAt}
 use Rattle.table.specs.Words.{Reads}
-use Rattle.sheet.specs.declared.SheetRead.{SheetRead}
-use Rattle.sheet.specs.declared.SheetRead.the-variants.{Types, Faulty}
+use Rattle.sheet_steps.specs.declared.SheetRead.{SheetRead}
+use Rattle.sheet_steps.specs.declared.SheetRead.the-variants.{Types, Faulty}
 use Rattle.sheet.specs.Sheet.{Sheet, sheetOf}
 use Rattle.sheet.specs.Sheet.Sheet.{ofType, faultyAt}
-use Rattle.sheet.specs.Read.{ReadsSheet}
-use Rattle.sheet.proofs.Numbered.{type-size}
-use Rattle.sheet.proofs.Types.{sheet-fault, sheet-type}
+use Rattle.sheet_steps.specs.Read.{ReadsSheet}
+use Rattle.sheet_steps.proofs.Numbered.{type-size}
+use Rattle.sheet_steps.proofs.Types.{sheet-fault, sheet-type}
 use Rattle.runs.specs.Run.{cleared, tableAfter}
 use Rattle.runs.proofs.Table.{half-cleared}
 use Rattle.record_size.specs.RecordSize.{sizeAnswer, answerOf}

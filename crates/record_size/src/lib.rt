@@ -6,7 +6,7 @@ ghost use Rattle.sheet.specs.Sheet.{sheetOf};
 ghost use Rattle.record_size.specs.RecordSize.{sizeAnswer, answerOf};
 use answer::Answer;
 use reading::read_sheet;
-use sheet::SheetRead;
+use sheet_steps::SheetRead;
 use table::read::type_word;
 use table::store::clear;
 

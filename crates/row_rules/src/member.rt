@@ -3,7 +3,7 @@ ghost use mathlib.Core.Path.{_≡_};
 ghost use Prim.Native.Nat.{_<_};
 ghost use Rattle.table.specs.Table.{typeAt, bytesAt, membersAt, sizeWord, firstWord, rowsWord};
 ghost use Rattle.sheet.specs.Sheet.{mayPlace};
-ghost use Rattle.sheet.specs.Steps.{isBeside, apartAt};
+ghost use Rattle.sheet_steps.specs.Steps.{isBeside, apartAt};
 use crate::value::is_missing;
 use row_lookup::row_named;
 use table::FIRST;

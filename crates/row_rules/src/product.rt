@@ -1,8 +1,8 @@
 // The size of an array.
 ghost use mathlib.Core.Path.{_≡_};
 ghost use Prim.Native.Nat.{_<_};
-ghost use Rattle.sheet.specs.Steps.{totalOf};
-use sheet::Total;
+ghost use Rattle.sheet_steps.specs.Steps.{totalOf};
+use sheet_steps::Total;
 
 // An array has at most so many dimensions and bytes.
 const RANKS: usize = 4;

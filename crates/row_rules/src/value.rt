@@ -6,7 +6,7 @@ ghost use Rattle.number.specs.Number.{fitted};
 ghost use Rattle.number.specs.Parts.{signedBy};
 ghost use Rattle.table.specs.Table.{layoutAt, bytesAt, symbolsAt, firstWord, rowsWord};
 ghost use Rattle.sheet.specs.Sheet.{mayList};
-ghost use Rattle.sheet.specs.Steps.{isMissing};
+ghost use Rattle.sheet_steps.specs.Steps.{isMissing};
 use bits::shift::ones;
 use layout::Layout;
 use row_lookup::row_named;

@@ -3,7 +3,7 @@ ghost use Prim.Native.Nat.{_<_};
 ghost use lib.ListN.{length};
 use libc::STDOUT_FILENO;
 use reading::read_sheet;
-use sheet::SheetRead;
+use sheet_steps::SheetRead;
 
 fn show(text: &[u8]) {
     io::write_all(STDOUT_FILENO, text);

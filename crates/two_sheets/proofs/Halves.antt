@@ -6,10 +6,10 @@ use native.Mathlib.Omega.{arith}
 use borrow.Rule.Slice.PartMut.{putMid}
 use lib.ListN.{length, take, drop, length-append, length-take, length-drop, drop-of-length-le}
 use lib.Seq.{take-all, take-at, drop-at, length-take-le}
-use Rattle.sheet.specs.declared.SheetRead.{SheetRead}
-use Rattle.sheet.specs.declared.SheetRead.the-variants as read
-use Rattle.sheet.specs.Read.{StandsAfter, ReadsSheet}
-use Rattle.sheet.proofs.Types.{sheet-fault, sheet-type, type-formed}
+use Rattle.sheet_steps.specs.declared.SheetRead.{SheetRead}
+use Rattle.sheet_steps.specs.declared.SheetRead.the-variants as read
+use Rattle.sheet_steps.specs.Read.{StandsAfter, ReadsSheet}
+use Rattle.sheet_steps.proofs.Types.{sheet-fault, sheet-type, type-formed}
 use Rattle.two_sheets.specs.declared.Sheets.{Sheets}
 use Rattle.two_sheets.specs.declared.Sheets.the-variants.{Types, Source, Destination}
 use Rattle.two_sheets.specs.TwoSheets.{first, second, IsSheet, SourceRead, ReadAs, SheetsRead, Both}

@@ -3,7 +3,7 @@ ghost use mathlib.Core.Path.{_≡_};
 ghost use lib.ListN.{length};
 ghost use Rattle.two_sheets.specs.TwoSheets.{SourceRead, SheetsRead};
 use reading::read_sheet;
-use sheet::SheetRead;
+use sheet_steps::SheetRead;
 use table::HALF;
 
 // Two sheets read into the table: their type numbers; or the first faulty line of the first faulty one.

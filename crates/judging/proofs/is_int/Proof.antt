@@ -2,7 +2,7 @@
 use mathlib.Core.Path.{refl}
 use borrow.Author.Needs.{needs}
 use borrow.Author.Tests.{eq-eqb, ne-eqb}
-use Rattle.sheet.specs.Steps.{isIntAt}
+use Rattle.sheet_steps.specs.Steps.{isIntAt}
 use Rattle.judging.proofs.is_int.Statement.{statement}
 use Rattle.judging.proofs.is_int.Tie as tie
 

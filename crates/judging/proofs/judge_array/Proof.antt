@@ -3,8 +3,8 @@ use mathlib.Core.Path.{_≡_}
 use borrow.Author.Needs.{needs}
 use lib.ListN.{length}
 use Rattle.table.specs.Table.{upToZero}
-use Rattle.sheet.proofs.Added.{refused}
-use Rattle.sheet.proofs.Lines.{array-judged, array-high, array-none, array-large}
+use Rattle.sheet_steps.proofs.Added.{refused}
+use Rattle.sheet_steps.proofs.Lines.{array-judged, array-high, array-none, array-large}
 use Rattle.judging.proofs.judge_array.Statement.{statement}
 use Rattle.judging.proofs.judge_array.Tie as tie
 

@@ -3,8 +3,8 @@ use native.Mathlib.Omega.{arith}
 use borrow.Author.Needs.{needs}
 use Rattle.layout.proofs.Edits.{fails, holds}
 use Rattle.layout.proofs.Valid.{facts}
-use Rattle.sheet.proofs.Added.{refused}
-use Rattle.sheet.proofs.Lines.{atomic-judged}
+use Rattle.sheet_steps.proofs.Added.{refused}
+use Rattle.sheet_steps.proofs.Lines.{atomic-judged}
 use Rattle.judging.proofs.judge_atomic.Statement.{statement}
 use Rattle.judging.proofs.judge_atomic.Tie as tie
 

@@ -1,8 +1,8 @@
 -- `judging::judge_compound` meets its contract. Assumes nothing.
 use borrow.Author.Needs.{needs}
-use Rattle.sheet.specs.Judged.{soFarAt}
-use Rattle.sheet.proofs.Added.{refused}
-use Rattle.sheet.proofs.Lines.{compound-judged, compound-none, compound-large}
+use Rattle.sheet_steps.specs.Judged.{soFarAt}
+use Rattle.sheet_steps.proofs.Added.{refused}
+use Rattle.sheet_steps.proofs.Lines.{compound-judged, compound-none, compound-large}
 use Rattle.judging.proofs.judge_compound.Statement.{statement}
 use Rattle.judging.proofs.judge_compound.Tie as tie
 

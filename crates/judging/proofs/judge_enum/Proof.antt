@@ -1,7 +1,7 @@
 -- `judging::judge_enum` meets its contract. Assumes nothing.
 use borrow.Author.Needs.{needs}
-use Rattle.sheet.proofs.Added.{refused}
-use Rattle.sheet.proofs.Lines.{enum-judged, enum-high, enum-other}
+use Rattle.sheet_steps.proofs.Added.{refused}
+use Rattle.sheet_steps.proofs.Lines.{enum-judged, enum-high, enum-other}
 use Rattle.judging.proofs.judge_enum.Statement.{statement}
 use Rattle.judging.proofs.judge_enum.Tie as tie
 

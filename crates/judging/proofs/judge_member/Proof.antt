@@ -2,8 +2,8 @@
 use mathlib.Core.Path.{sym, _∙_}
 use borrow.Author.Needs.{needs}
 use Rattle.table.specs.Table.{bytesAt}
-use Rattle.sheet.proofs.Added.{refused}
-use Rattle.sheet.proofs.Lines.{member-judged, member-first, member-late, member-other, member-refused}
+use Rattle.sheet_steps.proofs.Added.{refused}
+use Rattle.sheet_steps.proofs.Lines.{member-judged, member-first, member-late, member-other, member-refused}
 use Rattle.judging.proofs.judge_member.Statement.{statement}
 use Rattle.judging.proofs.judge_member.Tie as tie
 

@@ -3,8 +3,8 @@ use mathlib.Core.Path.{sym, _∙_}
 use borrow.Author.Needs.{needs}
 use Rattle.table.specs.Table.{bytesAt}
 use Rattle.number.specs.Parts.{signedBy}
-use Rattle.sheet.proofs.Added.{refused}
-use Rattle.sheet.proofs.Lines.{value-judged, value-first, value-other, value-refused}
+use Rattle.sheet_steps.proofs.Added.{refused}
+use Rattle.sheet_steps.proofs.Lines.{value-judged, value-first, value-other, value-refused}
 use Rattle.judging.proofs.judge_value.Statement.{statement}
 use Rattle.judging.proofs.judge_value.Tie as tie
 

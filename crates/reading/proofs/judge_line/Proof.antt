@@ -3,7 +3,7 @@ use Prim.Native.Nat.{_-_}
 use native.Mathlib.Omega.{arith}
 use denote.Ref.{now}
 use borrow.Author.Needs.{needs}
-use Rattle.sheet.proofs.Turns.{name-bytes, value-inside, member-inside}
+use Rattle.sheet_steps.proofs.Turns.{name-bytes, value-inside, member-inside}
 use Rattle.reading.proofs.judge_line.Statement.{statement}
 use Rattle.reading.proofs.judge_line.Tie as tie
 

@@ -4,7 +4,7 @@ use mathlib.Core.Path.{_≡_, sym, _∙_}
 use native.Mathlib.Omega.{arith}
 use lib.ListN.{length}
 use borrow.Author.Needs.{needs}
-use Rattle.sheet.proofs.Loop.{Before, first, faulty-here, further, next-line, no-line, all-lines}
+use Rattle.sheet_steps.proofs.Loop.{Before, first, faulty-here, further, next-line, no-line, all-lines}
 use Rattle.reading.proofs.read_lines.Statement.{statement}
 use Rattle.reading.proofs.read_lines.Tie as tie
 

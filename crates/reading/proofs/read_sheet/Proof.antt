@@ -1,7 +1,7 @@
 -- `reading::read_sheet` meets its contract. Assumes nothing.
 use native.Mathlib.Omega.{arith}
 use borrow.Author.Needs.{needs}
-use Rattle.sheet.proofs.Loop.{too-long, faulty-line, stood, read-types}
+use Rattle.sheet_steps.proofs.Loop.{too-long, faulty-line, stood, read-types}
 use Rattle.reading.proofs.read_sheet.Statement.{statement}
 use Rattle.reading.proofs.read_sheet.Tie as tie
 

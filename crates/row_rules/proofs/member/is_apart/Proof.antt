@@ -3,8 +3,8 @@ use Prim.Native.Nat.{_≤_}
 use mathlib.Core.Path.{_≡_, refl, sym, _∙_}
 use native.Mathlib.Omega.{arith}
 use borrow.Author.Tests.{not-true, not-false}
-use Rattle.sheet.specs.Steps.{apartAt}
-use Rattle.sheet.proofs.Apart.{apart-none, apart-hit, apart-skip}
+use Rattle.sheet_steps.specs.Steps.{apartAt}
+use Rattle.sheet_steps.proofs.Apart.{apart-none, apart-hit, apart-skip}
 use Rattle.row_rules.proofs.member.is_apart.Statement.{statement}
 use Rattle.row_rules.proofs.member.is_apart.Tie as tie
 

@@ -2,7 +2,7 @@
 use mathlib.Core.Path.{refl}
 use borrow.Author.Needs.{needs}
 use borrow.Author.Tests.{le-leb, lt-leb}
-use Rattle.sheet.specs.Steps.{isBeside}
+use Rattle.sheet_steps.specs.Steps.{isBeside}
 use Rattle.row_rules.proofs.member.is_beside.Statement.{statement}
 use Rattle.row_rules.proofs.member.is_beside.Tie as tie
 

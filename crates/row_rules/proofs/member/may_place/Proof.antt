@@ -3,7 +3,7 @@ use mathlib.Core.Path.{refl, _∙_}
 use borrow.Author.Needs.{needs}
 use borrow.Author.Tests.{not-true, not-false, le-leb, lt-leb}
 use Rattle.table.specs.Table.{typeAt, bytesAt}
-use Rattle.sheet.proofs.Apart.{member-missing, apart-is}
+use Rattle.sheet_steps.proofs.Apart.{member-missing, apart-is}
 use Rattle.row_rules.proofs.member.may_place.Statement.{statement}
 use Rattle.row_rules.proofs.member.may_place.Tie as tie
 

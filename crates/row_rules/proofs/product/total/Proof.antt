@@ -9,7 +9,7 @@ use mir.Syntax.{w32}
 use mir.Val.{Fits}
 use Rattle.datatype.specs.Datatype.{elements}
 use Rattle.table.specs.Table.{upToZero}
-use Rattle.sheet.proofs.Totals.{left, left-none, left-zero, left-step, total-ends, total-many}
+use Rattle.sheet_steps.proofs.Totals.{left, left-none, left-zero, left-step, total-ends, total-many}
 use Rattle.row_rules.proofs.product.total.Statement.{statement}
 use Rattle.row_rules.proofs.product.total.Tie as tie
 

@@ -1,7 +1,7 @@
 -- `row_rules::value::in_range` meets its contract. Assumes nothing.
 use mathlib.Core.Path.{_∙_}
 use borrow.Author.Needs.{needs}
-use Rattle.sheet.proofs.Ranges.{signed-range, unsigned-range, unsigned-negative}
+use Rattle.sheet_steps.proofs.Ranges.{signed-range, unsigned-range, unsigned-negative}
 use Rattle.row_rules.proofs.value.in_range.Statement.{statement}
 use Rattle.row_rules.proofs.value.in_range.Tie as tie
 

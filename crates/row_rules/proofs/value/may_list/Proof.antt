@@ -2,7 +2,7 @@
 use mathlib.Core.Path.{refl, _∙_}
 use borrow.Author.Needs.{needs}
 use borrow.Author.Tests.{not-true, not-false}
-use Rattle.sheet.proofs.Apart.{name-missing, number-missing}
+use Rattle.sheet_steps.proofs.Apart.{name-missing, number-missing}
 use Rattle.row_rules.proofs.value.may_list.Statement.{statement}
 use Rattle.row_rules.proofs.value.may_list.Tie as tie
 

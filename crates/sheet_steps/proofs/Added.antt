@@ -13,12 +13,12 @@ use Rattle.datatype.specs.Datatype.{Datatype}
 use Rattle.table.specs.Table.{classWord, node, typeAt, typesAt, Holds}
 use Rattle.table.specs.Records.{rowAdded}
 use Rattle.table.proofs.Keeps.{add-type, add-row}
-use Rattle.sheet.specs.declared.Judged.{Judged}
-use Rattle.sheet.specs.declared.Judged.the-variants.{Accepted, Refused}
+use Rattle.sheet_steps.specs.declared.Judged.{Judged}
+use Rattle.sheet_steps.specs.declared.Judged.the-variants.{Accepted, Refused}
 use Rattle.sheet.specs.Sheet.{SoFar, addType, addRow}
-use Rattle.sheet.specs.Judged.{soFarAt, Judges}
-use Rattle.sheet.specs.Steps.{TypeAdded, RowAdded}
-use Rattle.sheet.proofs.Numbered.{types-length}
+use Rattle.sheet_steps.specs.Judged.{soFarAt, Judges}
+use Rattle.sheet_steps.specs.Steps.{TypeAdded, RowAdded}
+use Rattle.sheet_steps.proofs.Numbered.{types-length}
 
 pub refused : {w : List ℕ} {n m : ℕ} {t : List ℕ} {after : Option SoFar} → Holds w n m → after ≡ none → Judges w t after Refused
 refused h e = record { is = sym e; holds = tt; words = h .words }

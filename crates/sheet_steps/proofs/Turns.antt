@@ -36,10 +36,10 @@ use Rattle.line.specs.Read.{nameWithin, namesWithin, readable, says, nextOf, Re
 use Rattle.line.specs.Read.Reading.{faulty as unread}
 use Rattle.line.proofs.Columns.{byte-inside}
 use Rattle.table.specs.Table.{bytesAt}
 use Rattle.sheet.specs.Sheet.{SoFar, arrayOf, addType, typeNumbered, onNewest, withValue, judgedAfter, judge, isNil, isNone, linesFrom, Outcome}
 use Rattle.sheet.specs.Sheet.Outcome.{accepted, faulty}
-use Rattle.sheet.specs.Read.{readJudged}
+use Rattle.sheet_steps.specs.Read.{readJudged}
 use Rattle.sheet.proofs.ReadWellFormed.{EachWellFormed}
 
 -- a name in the text, as the table has it
 pub name-bytes : (t : List ℕ) (a k : ℕ) → a + k ≤ length t → bytesAt t a k ≡ take k (drop a t)

@@ -27,15 +27,15 @@ use Rattle.table.specs.Records.{classCode, layoutRecord, atomicRecord, enumReco
 use Rattle.layout.proofs.Edits.{fails, holds}
 use Rattle.table.proofs.Keeps.{type-is}
 use Rattle.table.proofs.Made.{node-array, node-compound, node-enum, node-leaf, atomic-made, enum-made, compound-made, array-made, member-made, value-made}
-use Rattle.sheet.specs.declared.Judged.{Judged}
+use Rattle.sheet_steps.specs.declared.Judged.{Judged}
 use Rattle.sheet.specs.Sheet.{SoFar, enumOf, withValue, withMember, mayList, mayPlace, addType, addRow, typeNumbered, judgedAfter}
-use Rattle.sheet.specs.Judged.{soFarAt, Judges}
-use Rattle.sheet.specs.declared.Total.{Total}
-use Rattle.sheet.specs.declared.Total.the-variants.{Bytes, TooMany}
-use Rattle.sheet.specs.Steps.{TypeAdded, RowAdded, isIntAt, totalOf}
-use Rattle.sheet.proofs.Numbered.{type-numbered, type-size}
-use Rattle.sheet.proofs.Totals.{some-dimension, few-dimensions, each-dimension, no-dimension, total-fits, total-large}
-use Rattle.sheet.proofs.Added.{typed, rowed}
+use Rattle.sheet_steps.specs.Judged.{soFarAt, Judges}
+use Rattle.sheet_steps.specs.declared.Total.{Total}
+use Rattle.sheet_steps.specs.declared.Total.the-variants.{Bytes, TooMany}
+use Rattle.sheet_steps.specs.Steps.{TypeAdded, RowAdded, isIntAt, totalOf}
+use Rattle.sheet_steps.proofs.Numbered.{type-numbered, type-size}
+use Rattle.sheet_steps.proofs.Totals.{some-dimension, few-dimensions, each-dimension, no-dimension, total-fits, total-large}
+use Rattle.sheet_steps.proofs.Added.{typed, rowed}
 
 -- ---- atomic types
 

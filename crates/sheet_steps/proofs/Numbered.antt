@@ -13,8 +13,8 @@ use Rattle.text.specs.Field.{when}
 use Rattle.table.specs.Table.{typeAt, typesAt, sizeWord, Holds}
 use Rattle.table.proofs.Keeps.{type-is}
 use Rattle.table.proofs.Made.{node-size}
 use Rattle.sheet.specs.Sheet.{typeNumbered, isNil}
-use Rattle.sheet.specs.Judged.{soFarAt}
+use Rattle.sheet_steps.specs.Judged.{soFarAt}
 
 pub types-length : (w t : List ℕ) (n : ℕ) → length (typesAt w t n) ≡ n
 unfolding typesAt

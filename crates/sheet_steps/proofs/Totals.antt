@@ -12,9 +12,9 @@ use lib.ListN.{getD, length, drop, drop-of-length-le}
 use lib.Seq.{drop-cons}
 use Rattle.datatype.specs.Datatype.{elements}
 use Rattle.table.specs.Table.{upToZero}
-use Rattle.sheet.specs.declared.Total.the-variants.{Bytes, TooMany}
+use Rattle.sheet_steps.specs.declared.Total.the-variants.{Bytes, TooMany}
 use Rattle.sheet.specs.Sheet.{eachSome}
-use Rattle.sheet.specs.Steps.{totalOf}
+use Rattle.sheet_steps.specs.Steps.{totalOf}
 
 pub few-dimensions : (ds : List ℕ) → length (upToZero ds) ≤ length ds
 few-dimensions [] = omega arith

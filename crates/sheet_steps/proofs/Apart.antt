@@ -15,8 +15,8 @@ use Rattle.table.specs.Table.{sizeWord, memberTypeWord, symbolsAt, membersAt, d
 use Rattle.table.specs.Rows.{rowNamed, rowNumbered, memberFound, valueFound, nameFound}
 use Rattle.table.proofs.Lookups.{member-named, symbol-named, symbol-numbered}
 use Rattle.table.proofs.Made.{node-size}
 use Rattle.sheet.specs.Sheet.{isNone, isApart}
-use Rattle.sheet.specs.Steps.{isMissing, isBeside, apartAt}
+use Rattle.sheet_steps.specs.Steps.{isMissing, isBeside, apartAt}
 
 -- ---- rows that were not found
 

@@ -5,9 +5,9 @@ use mathlib.Core.Option.{Option, none, some}
 use Prim.Native.Nat.{ℕ}
 use lib.ListN.{length}
 use Rattle.table.specs.Table.{typesAt, Holds}
-use Rattle.sheet.specs.declared.Judged.{Judged}
-use Rattle.sheet.specs.declared.Judged.the-variants.{Accepted, Refused}
+use Rattle.sheet_steps.specs.declared.Judged.{Judged}
+use Rattle.sheet_steps.specs.declared.Judged.the-variants.{Accepted, Refused}
 use Rattle.sheet.specs.Sheet.{SoFar}
 
 -- n types and m rows in the table w beside the text t
 abbrev pub soFarAt : List ℕ → List ℕ → ℕ → ℕ → SoFar

@@ -10,12 +10,12 @@ use Rattle.line.specs.declared.ReadLine.{ReadLine}
 use Rattle.line.specs.Read.{says}
 use Rattle.table.specs.Table.{Holds}
 use Rattle.table.specs.Records.{RowsInside}
-use Rattle.sheet.specs.declared.SheetRead.{SheetRead}
-use Rattle.sheet.specs.declared.SheetRead.the-variants.{Types, Faulty}
+use Rattle.sheet_steps.specs.declared.SheetRead.{SheetRead}
+use Rattle.sheet_steps.specs.declared.SheetRead.the-variants.{Types, Faulty}
 use Rattle.sheet.specs.Sheet.{SoFar, judgedAfter, Outcome, outcomeOf, linesFrom}
 use Rattle.sheet.specs.Sheet.Outcome.{accepted, faulty}
 use Rattle.sheet.specs.FirstFault.{noLines}
-use Rattle.sheet.specs.Judged.{soFarAt}
+use Rattle.sheet_steps.specs.Judged.{soFarAt}
 
 -- what a line that was read from the text t says, judged after the lines before it
 abbrev pub readJudged : List ℕ → ReadLine → SoFar → Option SoFar

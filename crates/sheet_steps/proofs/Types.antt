@@ -6,11 +6,11 @@ use native.Mathlib.Omega.{arith}
 use Rattle.datatype.specs.Datatype.{Datatype}
 use Rattle.datatype.specs.WellFormed.{WellFormed}
 use Rattle.table.specs.Table.{typeAt, typesAt}
-use Rattle.sheet.specs.declared.SheetRead.the-variants.{Types, Faulty}
+use Rattle.sheet_steps.specs.declared.SheetRead.the-variants.{Types, Faulty}
 use Rattle.sheet.specs.Sheet.{newest, typed, sheetOf, Outcome}
 use Rattle.sheet.specs.Sheet.Sheet.{ofType, faultyAt}
-use Rattle.sheet.specs.Read.{ReadsSheet}
+use Rattle.sheet_steps.specs.Read.{ReadsSheet}
 use Rattle.sheet.proofs.ReadWellFormed.{read-well-formed}
 
 module _ (t w : List ℕ) where
   pub sheet-fault : (k : ℕ) → ReadsSheet t w (Faulty k) → sheetOf t ≡ faultyAt k

@@ -19,18 +19,18 @@ use Rattle.table.specs.Table.{Holds, typesAt}
 use Rattle.table.specs.Records.{typesCleared}
 use Rattle.table.proofs.Keeps.{holds-none}
 use Rattle.table.proofs.Cleared.{cleared-length, cleared-holds, cleared-types, rows-inside}
-use Rattle.sheet.specs.declared.Judged.{Judged}
-use Rattle.sheet.specs.declared.Judged.the-variants.{Accepted, Refused}
-use Rattle.sheet.specs.declared.SheetRead.{SheetRead}
-use Rattle.sheet.specs.declared.SheetRead.the-variants.{Types, Faulty}
+use Rattle.sheet_steps.specs.declared.Judged.{Judged}
+use Rattle.sheet_steps.specs.declared.Judged.the-variants.{Accepted, Refused}
+use Rattle.sheet_steps.specs.declared.SheetRead.{SheetRead}
+use Rattle.sheet_steps.specs.declared.SheetRead.the-variants.{Types, Faulty}
 use Rattle.sheet.specs.Sheet.{SoFar, judgedAfter, isNil, ended, linesFrom, outcomeOf, Outcome}
 use Rattle.sheet.specs.Sheet.Outcome.{accepted, faulty}
 use Rattle.sheet.specs.FirstFault.{noLines}
-use Rattle.sheet.specs.Judged.{soFarAt, judgedAs, HoldsAfter, Judges}
-use Rattle.sheet.specs.Read.{readJudged, readAs, Stands, StandsAfter, ReadsLines, ReadsSheet}
+use Rattle.sheet_steps.specs.Judged.{soFarAt, judgedAs, HoldsAfter, Judges}
+use Rattle.sheet_steps.specs.Read.{readJudged, readAs, Stands, StandsAfter, ReadsLines, ReadsSheet}
 use Rattle.sheet.proofs.ReadWellFormed.{EachWellFormed, then-gave, line-keeps}
-use Rattle.sheet.proofs.Numbered.{no-types}
-use Rattle.sheet.proofs.Turns.{Turn, turn}
+use Rattle.sheet_steps.proofs.Numbered.{no-types}
+use Rattle.sheet_steps.proofs.Turns.{Turn, turn}
 
 -- the lines before place at gave n types and m rows, and line k is next
 pub record Before (t w : List ℕ) (at n m k : ℕ) : Type 0 where

@@ -10,10 +10,10 @@ use Rattle.table.specs.declared.Found.{Found}
 use Rattle.table.specs.declared.Found.the-variants.{At, Missing}
 use Rattle.table.specs.Table.{classWord, sizeWord, offsetWord, memberTypeWord, upToZero}
 use Rattle.table.specs.Records.{rowAdded}
-use Rattle.sheet.specs.declared.Judged.{Judged}
-use Rattle.sheet.specs.declared.Judged.the-variants.{Accepted, Refused}
-use Rattle.sheet.specs.declared.Total.{Total}
-use Rattle.sheet.specs.declared.Total.the-variants.{Bytes, TooMany}
+use Rattle.sheet_steps.specs.declared.Judged.{Judged}
+use Rattle.sheet_steps.specs.declared.Judged.the-variants.{Accepted, Refused}
+use Rattle.sheet_steps.specs.declared.Total.{Total}
+use Rattle.sheet_steps.specs.declared.Total.the-variants.{Bytes, TooMany}
 
 -- the record r of type n
 pub record TypeAdded (w v : List ℕ) (n m : ℕ) (r : List ℕ) (j : Judged) : Type 0 where

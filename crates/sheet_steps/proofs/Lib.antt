@@ -1,0 +1,9 @@
+pub mod Numbered
+pub mod Added
+pub mod Lines
+pub mod Apart
+pub mod Totals
+pub mod Ranges
+pub mod Turns
+pub mod Loop
+pub mod Types
