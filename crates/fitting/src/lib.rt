@@ -162,7 +162,7 @@ pub fn fit_raw(l: Layout, m: Layout, raw: u64) -> Fitted
                 kind: NO_EXCEPTION,
             };
         }
-        return fit(number_of(false, p, raw), m);
+        return fit_unsigned(raw, true, q);
     }
     if p <= q {
         return Fitted {
@@ -170,5 +170,5 @@ pub fn fit_raw(l: Layout, m: Layout, raw: u64) -> Fitted
             kind: NO_EXCEPTION,
         };
     }
-    fit(number_of(false, p, raw), m)
+    fit_unsigned(raw, false, q)
 }

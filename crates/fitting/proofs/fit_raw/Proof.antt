@@ -2,25 +2,18 @@
 use Prim.Native.Nat.{_-_, _^_, _≤_}
 use mathlib.Core.Path.{sym, ap, _∙_}
 use native.Mathlib.Omega.{arith}
+use lib.IntN.{pos}
 use lib.Pow.{pow-mono}
 use Rattle.number.specs.Number.{fitted}
 use Rattle.number.proofs.Range.{signed-inside, unsigned-inside}
+use Rattle.number.proofs.RoundTrip.{fitted-raw}
 use borrow.Author.Needs.{needs}
 use Rattle.fitting.proofs.fit_raw.Statement.{statement}
 use Rattle.fitting.proofs.fit_raw.Tie as tie
 
-widened-requires : tie.Need-widened-requires
-widened-requires c κs = search needs
-
 returns : tie.Need-returns
 returns c =
     rw (c .before .before .before .if1 .taken, c .before .before .if2 .taken) (c .widened .ensures)
-
-number-of-requires : tie.Need-number-of-requires
-number-of-requires c κs = search needs
-
-fit-requires : tie.Need-fit-requires
-fit-requires c κs = search needs
 
 returns-2 : tie.Need-returns-2
 returns-2 c =
@@ -33,15 +26,11 @@ returns-3 c =
     let k : 2 ^ a .l .precision ≤ 2 ^ a .m .precision = pow-mono (omega arith) in
     rw (c .before .before .if1 .left, c .before .if4 .taken) (sym (signed-inside (a .m .precision) (a .raw) (omega arith)), omega arith)
 
-number-of-requires-2 : tie.Need-number-of-requires-2
-number-of-requires-2 c κs = search needs
-
-fit-requires-2 : tie.Need-fit-requires-2
-fit-requires-2 c κs = search needs
-
 returns-4 : tie.Need-returns-4
 returns-4 c =
-    rw (c .before .before .before .before .if1 .left) (c .fit2 .ensures .0 ∙ ap (fitted (c .before .before .before .before .before .args .m)) (c .before .number-of2 .ensures), c .fit2 .ensures .1)
+    let start = c .before .before .before .before in
+    let a = start .args in
+    rw (c .before .before .before .if1 .left) (fitted-raw (a .m) (pos (a .raw)) _ (start .pre .1) (rw (c .before .before .if4 .taken) (c .fit-unsigned .ensures)))
 
 returns-5 : tie.Need-returns-5
 returns-5 c =
@@ -49,30 +38,24 @@ returns-5 c =
     let k : 2 ^ a .l .precision ≤ 2 ^ a .m .precision = pow-mono (omega arith) in
     rw (c .before .before .if1 .left, c .before .if4 .left) (sym (unsigned-inside (a .m .precision) (a .raw) (omega arith)), omega arith)
 
-number-of-requires-3 : tie.Need-number-of-requires-3
-number-of-requires-3 c κs = search needs
-
-fit-requires-3 : tie.Need-fit-requires-3
-fit-requires-3 c κs = search needs
-
 returns-6 : tie.Need-returns-6
 returns-6 c =
-    rw (c .before .before .before .before .if1 .left) (c .fit3 .ensures .0 ∙ ap (fitted (c .before .before .before .before .before .args .m)) (c .before .number-of3 .ensures), c .fit3 .ensures .1)
+    let start = c .before .before .before .before in
+    let a = start .args in
+    rw (c .before .before .before .if1 .left) (fitted-raw (a .m) (pos (a .raw)) _ (start .pre .1) (rw (c .before .before .if4 .left) (c .fit-unsigned2 .ensures)))
 
 pub fit-raw-spec : {M : Type 1} → statement M
 fit-raw-spec =
     tie.close
     (tie.spec
-    widened-requires
+    (λ c κs. search needs)
     returns
-    number-of-requires
-    fit-requires
+    (λ c κs. search needs)
+    (λ c κs. search needs)
     returns-2
     returns-3
-    number-of-requires-2
-    fit-requires-2
+    (λ c κs. search needs)
     returns-4
     returns-5
-    number-of-requires-3
-    fit-requires-3
+    (λ c κs. search needs)
     returns-6)
