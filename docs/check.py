@@ -14,7 +14,22 @@ import subprocess
 import sys
 import tempfile
 
-from yirvagul import LIST_BYTES, STACK_BYTES, Class, Handling, Layout, Order, Pad, Refusal, Sign, convert_copying, convert_in_place, leaf_list, record_size
+from yirvagul import (
+    LIST_BYTES,
+    SMALL_STACK_BYTES,
+    STACK_BYTES,
+    Class,
+    Handling,
+    Layout,
+    Order,
+    Pad,
+    Refusal,
+    Sign,
+    convert_copying,
+    convert_in_place,
+    leaf_list,
+    record_size,
+)
 
 ROOT = pathlib.Path(__file__).resolve().parents[1]
 PAGES = ["README.md", "CHANGELOG.md", "bindings/README.md", "bindings/python/README.md", "tests/README.md"]
@@ -305,7 +320,7 @@ def padded(n):
 
 def check_limits(page, text):
     """Each limit is kept where a run can tell, and is a constant of the interfaces where it cannot."""
-    rust, header = read("bindings/rust/src/lib.rs").replace("_", ""), read("include/yirvagul.h")
+    header = read("include/yirvagul.h")
     signed = WIDE.replace("unsigned", "signed")
 
     def takes(n):
@@ -330,7 +345,7 @@ def check_limits(page, text):
         "records in one call": lambda n: takes(n) and not takes(n + 1),
         "the working table": lambda n: f"YIRVAGUL_TABLE_WORDS {n}\n" in header,
         "a leaf list": lambda n: n == LIST_BYTES,
-        "stack of a converting call, destination record of at most 128 bytes": lambda n: f"SMALLSTACKBYTES: usize = {n};" in rust,
+        "stack of a converting call, destination record of at most 128 bytes": lambda n: n == SMALL_STACK_BYTES,
         "stack of any converting call": lambda n: n == STACK_BYTES,
     }
     limits = dict(rows(page, text, "| What | At most |"))

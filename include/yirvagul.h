@@ -32,6 +32,11 @@ extern "C" {
  * after every call, except after HANDLING and TABLE, which leave it as it was; words beyond never change. */
 #define YIRVAGUL_TABLE_WORDS 8192
 
+/* The most bytes that a call takes of its thread's stack: any call; and one that converts where the destination record has at most 128 bytes, or that is no
+ * conversion (the list, the size, the setters). A call that is refused with HANDLING, TABLE, SOURCE or DESTINATION takes at most 16,384. */
+#define YIRVAGUL_STACK_BYTES 163840
+#define YIRVAGUL_SMALL_STACK_BYTES 49152
+
 /* ---- what a call answers ---- */
 
 /* The number that each call returns: done, or the first check that fails. A refusal leaves the data buffers, the list and the layout unchanged. */

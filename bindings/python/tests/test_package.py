@@ -66,11 +66,9 @@ class Names(unittest.TestCase):
                 typing.get_type_hints(some)
 
     def test_stack(self):
-        """As the header says it, once it does; then every call runs in a thread with that stack and a little for Python itself."""
-        said = re.search(r"^#define YIRVAGUL_STACK_BYTES \(?(\d+)", (REPOSITORY / "include/yirvagul.h").read_text(), re.M)
-        if said is None:
-            self.skipTest("the header does not say it yet")
-        self.assertEqual(yirvagul.STACK_BYTES, int(said[1]))
+        """As the header says it; and calls run in a thread with that stack and a little for Python itself."""
+        said = re.findall(r"^#define YIRVAGUL_(\w*STACK_BYTES) (\d+)$", (REPOSITORY / "include/yirvagul.h").read_text(), re.M)
+        self.assertEqual(dict(said), {name: str(getattr(yirvagul, name)) for name in ("STACK_BYTES", "SMALL_STACK_BYTES")})
         script = (
             "import threading, yirvagul\n"
             "def work():\n"

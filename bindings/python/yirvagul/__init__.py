@@ -30,6 +30,7 @@ __version__ = "0.1.0"
 
 __all__ = [
     "LIST_BYTES",
+    "SMALL_STACK_BYTES",
     "STACK_BYTES",
     "Class",
     "Handling",
@@ -57,3 +58,6 @@ __all__ = [
 
 STACK_BYTES = 163840
 """The most that any call takes of its thread's stack."""
+
+SMALL_STACK_BYTES = 49152
+"""The most that a call takes where the destination record has at most 128 bytes, and where it converts nothing."""

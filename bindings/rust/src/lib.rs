@@ -51,7 +51,7 @@ pub const LIST_BYTES: usize = 14 + 4096 * 12;
 /// The most bytes that any call takes of its thread's stack.
 pub const STACK_BYTES: usize = 163_840;
 
-/// The most that a call takes where the destination record has at most 128 bytes.
+/// The most that a call takes where the destination record has at most 128 bytes, and where it converts nothing.
 pub const SMALL_STACK_BYTES: usize = 49_152;
 
 /// What to do with numbers that do not fit.

@@ -183,12 +183,25 @@ fn refused_setters_leave_a_layout() {
     assert_eq!((Error::Range.number(), Error::Range.name()), (9, "RANGE"));
 }
 
+const HEADER: &str = include_str!("../../../../include/yirvagul.h");
+
+#[test]
+fn the_header_has_these_numbers() {
+    for (name, value) in [
+        ("TABLE_WORDS", TABLE_WORDS),
+        ("STACK_BYTES", STACK_BYTES),
+        ("SMALL_STACK_BYTES", SMALL_STACK_BYTES),
+    ] {
+        let line = format!("\n#define YIRVAGUL_{name} {value}\n");
+        assert!(HEADER.contains(&line), "{line}");
+    }
+}
+
 #[test]
 fn the_header_has_this_version() {
-    let header = include_str!("../../../../include/yirvagul.h");
     let number = |part: &str| part.parse::<u32>().unwrap();
     let version = number(env!("CARGO_PKG_VERSION_MAJOR")) * 10_000
         + number(env!("CARGO_PKG_VERSION_MINOR")) * 100
         + number(env!("CARGO_PKG_VERSION_PATCH"));
-    assert!(header.contains(&format!("#define YIRVAGUL_VERSION {version}\n")));
+    assert!(HEADER.contains(&format!("#define YIRVAGUL_VERSION {version}\n")));
 }

@@ -1,0 +1,418 @@
+/* Every call keeps to the stack that the header says: measured on a painted stack, and run on one of exactly that size, above a guard. Says nothing but
+ * what fails; with an argument, also what each call takes. */
+#define _DEFAULT_SOURCE
+#include <pthread.h>
+#include <signal.h>
+#include <stdio.h>
+#include <stdlib.h>
+#include <string.h>
+#include <sys/mman.h>
+#include <unistd.h>
+
+#include "yirvagul.h"
+
+enum { REFUSED_STACK_BYTES = 16384, SMALL_RECORD = 128, RECORDS = 3, SHEET_MOST = 16384, RECORD_MOST = 4096 };
+enum { PAINT = 0xa5, PAINTED = 1 << 19, GUARD = 1 << 20 };
+
+/* ---- sheets */
+
+typedef struct {
+    char text[2 * SHEET_MOST];
+    int types;
+} Sheet;
+
+static void line(Sheet *s, const char *text) { strcat(strcat(s->text, text), "\n"); }
+
+/* A type's line; returns the type's number. */
+static int type(Sheet *s, const char *text) {
+    line(s, text);
+    return s->types++;
+}
+
+static int numbered(Sheet *s, const char *format, int a, int b) {
+    char text[96];
+    snprintf(text, sizeof text, format, a, b);
+    return type(s, text);
+}
+
+static void named(Sheet *s, const char *kind, int name, int a, int b) {
+    char text[96];
+    if (b < 0)
+        snprintf(text, sizeof text, "%s\tn%d\t%d", kind, name, a);
+    else
+        snprintf(text, sizeof text, "%s\tn%d\t%d\t%d", kind, name, a, b);
+    line(s, text);
+}
+
+static const char *const BYTE = "int\t1\tLE\t0\t8\tzero\tzero\tunsigned";
+static const char *const SIGNED_BYTE = "int\t1\tLE\t0\t8\tzero\tzero\tsigned";
+static const char *const PAIR = "int\t2\tBE\t0\t16\tzero\tzero\tunsigned";
+static const char *const SIGNED_PAIR = "int\t2\tLE\t0\t16\tzero\tzero\tsigned";
+static const char *const KEPT = "int\t2\tBE\t3\t7\tkeep\tkeep\tsigned";
+static const char *const BITS = "bits\t1\tLE\t0\t8\tzero\tzero";
+static const char *const WIDE = "int\t8\tBE\t0\t64\tzero\tzero\tunsigned";
+
+static void array_of(Sheet *s, const char *base, int n) { numbered(s, "array\t%d\t%d", type(s, base), n); }
+
+/* Arrays of arrays, as deep as 64 types allow. */
+static void deep_arrays(Sheet *s, const char *base, int n) {
+    array_of(s, base, n);
+    while (s->types < 64) numbered(s, "array\t%d\t1\t1\t1\t1", s->types - 1, 0);
+}
+
+/* Compounds of compounds, likewise, each with a leaf of its own before or behind the one in it: 64 leaves. The last has this size. */
+static void deep_compounds(Sheet *s, const char *base, int leaf, int before, int size) {
+    int inner = type(s, base), depth;
+    for (depth = 1; depth < 64; depth++) {
+        int outer = numbered(s, "comp\t%d", depth == 63 ? size : (depth + 1) * leaf, 0);
+        named(s, "member", 0, before ? leaf : 0, inner);
+        named(s, "member", 1, before ? 0 : depth * leaf, 0);
+        inner = outer;
+    }
+}
+
+/* 16 members in each of three compounds: 4,096 leaves of one byte, the members of the outermost backwards if said. */
+static void wide_compounds(Sheet *s, const char *base, int backwards) {
+    int inner = type(s, base), size = 1, depth, i;
+    for (depth = 0; depth < 3; depth++) {
+        int outer = numbered(s, "comp\t%d", 16 * size, 0);
+        for (i = 0; i < 16; i++) named(s, "member", backwards ? 15 - i : i, i * size, inner);
+        inner = outer;
+        size *= 16;
+    }
+}
+
+/* An array of an enum whose symbols from `first` on are numbered first * step on by step. */
+static void enum_array(Sheet *s, const char *base, int first, int symbols, int step, int n) {
+    int i, e = numbered(s, "enum\t%d", type(s, base), 0);
+    for (i = first; i < symbols; i++) named(s, "value", i, i * step, -1);
+    numbered(s, "array\t%d\t%d", e, n);
+}
+
+/* A compound of 62 enums of two far symbols each. */
+static void many_enums(Sheet *s, int far, int size) {
+    int e, b = type(s, BYTE);
+    for (e = 0; e < 62; e++) {
+        numbered(s, "enum\t%d", b, 0);
+        named(s, "value", 0, 0, -1);
+        named(s, "value", 1, far, -1);
+    }
+    numbered(s, "comp\t%d", size, 0);
+    for (e = 0; e < 62; e++) named(s, "member", e, e, e + 1);
+}
+
+/* A record of 4,096 bytes, of which one byte has the name that a small one has. */
+static void one_of_many(Sheet *s, const char *base, int others) {
+    int b = type(s, base), i;
+    int array = numbered(s, "array\t%d\t%d", b, 32);
+    numbered(s, "comp\t%d", others ? RECORD_MOST : 1, 0);
+    named(s, "member", 0, others ? RECORD_MOST - 1 : 0, b);
+    for (i = 0; i < others; i++) named(s, "member", i + 1, 32 * i, array);
+}
+
+/* ---- pairs of sheets */
+
+typedef struct {
+    const char *name;
+    Sheet from, to;
+    int stops; /* records of bytes 255 have a number that does not fit */
+} Pair;
+
+static Pair pairs[32];
+static int pair_count;
+
+static Pair *pair(const char *name, int stops) {
+    Pair *p = &pairs[pair_count++];
+    p->name = name;
+    p->stops = stops;
+    return p;
+}
+
+static void make_pairs(void) {
+    Pair *p;
+    p = pair("one byte", 1), type(&p->from, BYTE), type(&p->to, SIGNED_BYTE);
+    p = pair("one easy byte, growing", 0), type(&p->from, BYTE), type(&p->to, WIDE);
+    p = pair("128 leaves", 1), array_of(&p->from, BYTE, 128), array_of(&p->to, SIGNED_BYTE, 128);
+    p = pair("64 leaves, growing", 1), array_of(&p->from, SIGNED_BYTE, 64), array_of(&p->to, PAIR, 64);
+    p = pair("128 leaves, shrinking", 1), array_of(&p->from, SIGNED_PAIR, 128), array_of(&p->to, BYTE, 128);
+    p = pair("64 leaves with kept pads", 1), array_of(&p->from, BYTE, 64), array_of(&p->to, KEPT, 64);
+    p = pair("128 flags", 0), array_of(&p->from, BITS, 128), array_of(&p->to, BITS, 128);
+    p = pair("arrays 63 deep, 128 leaves", 1), deep_arrays(&p->from, BYTE, 128), deep_arrays(&p->to, SIGNED_BYTE, 128);
+    p = pair("compounds 63 deep, 64 leaves", 1), deep_compounds(&p->from, BYTE, 1, 0, 64), deep_compounds(&p->to, SIGNED_BYTE, 1, 1, 64);
+    p = pair("compounds 63 deep, growing to 128", 1), deep_compounds(&p->from, SIGNED_BYTE, 1, 0, 64), deep_compounds(&p->to, PAIR, 2, 1, 128);
+    p = pair("1 byte of 4,096", 1), one_of_many(&p->from, BYTE, 127), one_of_many(&p->to, SIGNED_BYTE, 0);
+    p = pair("128 enums of 256 symbols", 1), enum_array(&p->from, BYTE, 0, 256, 1, 128), enum_array(&p->to, BYTE, 0, 255, 1, 128);
+    p = pair("16 enums of 256 far symbols", 1), enum_array(&p->from, WIDE, 0, 256, 8000000, 16), enum_array(&p->to, WIDE, 0, 255, 7000000, 16);
+    p = pair("62 enums that differ", 1), many_enums(&p->from, 254, 62), many_enums(&p->to, 253, 62);
+    p = pair("129 leaves", 1), array_of(&p->from, BYTE, 129), array_of(&p->to, SIGNED_BYTE, 129);
+    p = pair("4,096 leaves", 1), array_of(&p->from, BYTE, 4096), array_of(&p->to, SIGNED_BYTE, 4096);
+    p = pair("2,048 leaves, growing", 1), array_of(&p->from, SIGNED_BYTE, 2048), array_of(&p->to, PAIR, 2048);
+    p = pair("2,048 leaves, shrinking", 1), array_of(&p->from, SIGNED_PAIR, 2048), array_of(&p->to, BYTE, 2048);
+    p = pair("2,048 leaves with kept pads", 1), array_of(&p->from, BYTE, 2048), array_of(&p->to, KEPT, 2048);
+    p = pair("arrays 63 deep, 4,096 leaves", 1), deep_arrays(&p->from, BYTE, 4096), deep_arrays(&p->to, SIGNED_BYTE, 4096);
+    p = pair("compounds 63 deep in 4,096", 1), deep_compounds(&p->from, BYTE, 1, 0, 64), deep_compounds(&p->to, SIGNED_BYTE, 1, 1, 4096);
+    p = pair("compounds of 4,096 leaves", 1), wide_compounds(&p->from, BYTE, 0), wide_compounds(&p->to, SIGNED_BYTE, 1);
+    p = pair("4,096 enums of 256 symbols", 1), enum_array(&p->from, BYTE, 0, 256, 1, 4096), enum_array(&p->to, BYTE, 0, 255, 1, 4096);
+    p = pair("512 enums of 256 far symbols", 1), enum_array(&p->from, WIDE, 0, 256, 8000000, 512), enum_array(&p->to, WIDE, 0, 255, 7000000, 512);
+    p = pair("62 enums that differ in 4,096", 1), many_enums(&p->from, 254, 62), many_enums(&p->to, 253, 4096);
+}
+
+/* ---- calls */
+
+typedef enum { COPYING, COPYING_PLAIN, IN_PLACE, IN_PLACE_PLAIN, LIST, SIZE, SET_SIZE, SET_ORDER, SET_PRECISION, SET_OFFSET, SET_PADS, SET_SIGN, NONE } Form;
+
+static const char *const forms[] = {"copying",  "copying, plain", "in place",      "in place, plain", "list",     "size", "set size",
+                                    "set order", "set precision",  "set offset", "set pads",       "set sign", "nothing"};
+
+typedef struct {
+    Form form;
+    const char *what;
+    const char *from, *to;
+    size_t from_len, to_len, room, table_len;
+    uint64_t count;
+    uint32_t handling; /* of a setter, its argument */
+    uint32_t number;   /* that the call answers */
+    size_t most;       /* of stack */
+} Call;
+
+static uint8_t source[RECORDS * RECORD_MOST], place[RECORDS * RECORD_MOST], background[RECORDS * RECORD_MOST], list[YIRVAGUL_LIST_BYTES];
+static uint32_t table[YIRVAGUL_TABLE_WORDS];
+static uint64_t answer[8];
+static uint32_t layout[8];
+
+static uint32_t run(const Call *c) {
+    const uint8_t *from = (const uint8_t *)c->from, *to = (const uint8_t *)c->to;
+    switch (c->form) {
+    case COPYING:
+        return yirvagul_convert_copying(from, c->from_len, to, c->to_len, c->count, c->handling, source, sizeof source, place, c->room, table,
+                                        c->table_len, answer);
+    case COPYING_PLAIN:
+        return yirvagul_convert_copying_plain(from, c->from_len, to, c->to_len, c->count, source, sizeof source, place, c->room, table, c->table_len,
+                                              answer);
+    case IN_PLACE:
+        return yirvagul_convert_in_place(from, c->from_len, to, c->to_len, c->count, c->handling, place, c->room, background, sizeof background, table,
+                                         c->table_len, answer);
+    case IN_PLACE_PLAIN:
+        return yirvagul_convert_in_place_plain(from, c->from_len, to, c->to_len, c->count, place, c->room, background, sizeof background, table,
+                                               c->table_len, answer);
+    case LIST: return yirvagul_leaf_list(from, c->from_len, list, c->room, table, c->table_len, answer);
+    case SIZE: return yirvagul_record_size(from, c->from_len, table, c->table_len, answer);
+    case SET_SIZE: return yirvagul_set_size(layout, c->handling);
+    case SET_ORDER: return yirvagul_set_order(layout, c->handling);
+    case SET_PRECISION: return yirvagul_set_precision(layout, c->handling);
+    case SET_OFFSET: return yirvagul_set_offset(layout, c->handling);
+    case SET_PADS: return yirvagul_set_pads(layout, c->handling, c->handling);
+    case SET_SIGN: return yirvagul_set_sign(layout, c->handling);
+    case NONE: return 0;
+    }
+    return 0;
+}
+
+/* ---- threads */
+
+static const Call *running;
+static uint32_t returned;
+static uint8_t *frame;
+static uint8_t signal_stack[1 << 16];
+
+static void *thread(void *unused_argument) {
+    stack_t s;
+    uint8_t here = 0;
+    (void)unused_argument;
+    memset(&s, 0, sizeof s);
+    s.ss_sp = signal_stack;
+    s.ss_size = sizeof signal_stack;
+    sigaltstack(&s, NULL);
+    frame = &here;
+    returned = run(running);
+    return NULL;
+}
+
+static void say(const char *text) {
+    if (write(STDOUT_FILENO, text, strlen(text)) < 0) _exit(2);
+}
+
+static void overflow(int number) {
+    (void)number;
+    say("failed: ");
+    say(forms[running->form]);
+    say(", ");
+    say(running->what);
+    say(": it ran out of the stack that the header says\n");
+    _exit(1);
+}
+
+static void must(int holds, const char *what) {
+    if (!holds) {
+        printf("failed: no %s here\n", what);
+        exit(1);
+    }
+}
+
+/* Runs a call on a thread whose stack is `size` bytes from `stack` on. */
+static void run_on(const Call *c, uint8_t *stack, size_t size) {
+    pthread_attr_t a;
+    pthread_t t;
+    size_t i;
+    static const uint32_t start[8] = {YIRVAGUL_INT, 4, YIRVAGUL_LE, 16, 16, 0, 0, YIRVAGUL_UNSIGNED};
+    memcpy(layout, start, sizeof layout);
+    for (i = 0; i < sizeof place; i++) place[i] = source[i];
+    running = c;
+    must(pthread_attr_init(&a) == 0 && pthread_attr_setstack(&a, stack, size) == 0, "thread with a stack of its own");
+    must(pthread_create(&t, &a, thread, NULL) == 0 && pthread_join(t, NULL) == 0, "thread with a stack of its own");
+    pthread_attr_destroy(&a);
+}
+
+static uint8_t *stack; /* PAINTED bytes, above a guard */
+static size_t own;     /* what a thread takes that makes no call */
+static int failed, talks;
+
+/* The lowest byte that a call on the painted stack changes. */
+static uint8_t *lowest(const Call *c) {
+    uint8_t *p = stack;
+    memset(stack, PAINT, PAINTED);
+    run_on(c, stack, PAINTED);
+    while (p < stack + PAINTED && *p == PAINT) p++;
+    return p;
+}
+
+static void expect(Call c, uint32_t number, size_t most) {
+    uint8_t *low;
+    size_t taken;
+    c.number = number;
+    c.most = most;
+    low = lowest(&c);
+    taken = low < frame ? (size_t)(frame - low) : 0;
+    if (talks) printf("%-16s %-36s %-12s %7lu of %lu\n", forms[c.form], c.what, yirvagul_name(returned), (unsigned long)taken, (unsigned long)most);
+    if (returned != number || taken > most) {
+        printf("failed: %s, %s: answered %s where %s was due, and took %lu bytes of stack of %lu\n", forms[c.form], c.what, yirvagul_name(returned),
+               yirvagul_name(number), (unsigned long)taken, (unsigned long)most);
+        failed = 1;
+    } else {
+        run_on(&c, stack, most + own);
+        if (returned != number) {
+            printf("failed: %s, %s: another answer on a small stack\n", forms[c.form], c.what);
+            failed = 1;
+        }
+    }
+}
+
+static Call call(Form form, const char *what, const Sheet *from, const Sheet *to) {
+    Call c;
+    memset(&c, 0, sizeof c);
+    c.form = form;
+    c.what = what;
+    c.from = from->text;
+    c.from_len = strlen(from->text);
+    c.to = to->text;
+    c.to_len = strlen(to->text);
+    c.room = form == LIST ? sizeof list : sizeof place;
+    c.table_len = YIRVAGUL_TABLE_WORDS;
+    c.count = RECORDS;
+    return c;
+}
+
+static int takes_handling(Form f) { return f == COPYING || f == IN_PLACE; }
+
+/* ---- tests */
+
+static size_t size_of(const Sheet *s) {
+    must(yirvagul_record_size((const uint8_t *)s->text, strlen(s->text), table, YIRVAGUL_TABLE_WORDS, answer) == YIRVAGUL_DONE, "valid sheet");
+    return (size_t)answer[YIRVAGUL_ANSWER_COUNT];
+}
+
+/* Every form, of records that fit and of records that may not; and checks 5 to 7. */
+static void test_converting(const Pair *p) {
+    size_t most = size_of(&p->to) <= SMALL_RECORD ? YIRVAGUL_SMALL_STACK_BYTES : YIRVAGUL_STACK_BYTES;
+    int form, high, handling;
+    for (form = COPYING; form <= IN_PLACE_PLAIN; form++) {
+        Call c = call((Form)form, p->name, &p->from, &p->to), other;
+        for (high = 0; high < 2; high++) {
+            memset(source, high ? 255 : 0, sizeof source);
+            for (handling = 0; handling <= takes_handling(c.form); handling++) {
+                c.handling = (uint32_t)handling;
+                expect(c, high && handling && p->stops ? YIRVAGUL_STOP : YIRVAGUL_DONE, most);
+            }
+        }
+        other = c, other.count = 65537, expect(other, YIRVAGUL_COUNT, most);
+        other = c, other.room = 0, expect(other, YIRVAGUL_ROOM, most);
+    }
+}
+
+/* Checks 1 to 4, with faults in the last lines of the deepest sheets. */
+static void test_refused(const Pair *p) {
+    static Sheet faulty;
+    int form;
+    memcpy(&faulty, &p->from, sizeof faulty);
+    line(&faulty, "member\tx\t0\t0");
+    line(&faulty, "array\t0\t0");
+    for (form = COPYING; form <= SIZE; form++) {
+        Call c = call((Form)form, p->name, &p->from, &p->to), other;
+        other = c, other.table_len--, expect(other, YIRVAGUL_TABLE, REFUSED_STACK_BYTES);
+        other = c, other.from = faulty.text, other.from_len = strlen(faulty.text), expect(other, YIRVAGUL_SOURCE, REFUSED_STACK_BYTES);
+        other = c, other.from_len = SHEET_MOST + 1, expect(other, YIRVAGUL_SOURCE, REFUSED_STACK_BYTES);
+        if (takes_handling(c.form)) other = c, other.handling = 2, expect(other, YIRVAGUL_HANDLING, REFUSED_STACK_BYTES);
+        if (form <= IN_PLACE_PLAIN) other = c, other.to = faulty.text, other.to_len = strlen(faulty.text), expect(other, YIRVAGUL_DESTINATION, REFUSED_STACK_BYTES);
+    }
+}
+
+static void test_sheet(const char *name, const Sheet *s) {
+    Call c = call(LIST, name, s, s);
+    expect(c, YIRVAGUL_DONE, YIRVAGUL_SMALL_STACK_BYTES);
+    c.room = 0;
+    expect(c, YIRVAGUL_ROOM, YIRVAGUL_SMALL_STACK_BYTES);
+    expect(call(SIZE, name, s, s), YIRVAGUL_DONE, YIRVAGUL_SMALL_STACK_BYTES);
+}
+
+static void test_no_path(const char *name, void (*deep)(Sheet *, const char *, int), int n, size_t most) {
+    static Sheet from, to;
+    int form;
+    memset(&from, 0, sizeof from);
+    memset(&to, 0, sizeof to);
+    deep(&from, BYTE, n);
+    deep(&to, BITS, n);
+    for (form = COPYING; form <= IN_PLACE_PLAIN; form++) expect(call((Form)form, name, &from, &to), YIRVAGUL_PATH, most);
+}
+
+static void test_setters(void) {
+    static const Sheet none;
+    static const uint32_t good[] = {3, 1, 40, 48, 2, 1};
+    int form;
+    for (form = SET_SIZE; form <= SET_SIGN; form++) {
+        Call c = call((Form)form, "a setter", &none, &none);
+        c.handling = good[form - SET_SIZE];
+        expect(c, YIRVAGUL_DONE, YIRVAGUL_SMALL_STACK_BYTES);
+        c.handling = 4294967295u;
+        expect(c, YIRVAGUL_RANGE, YIRVAGUL_SMALL_STACK_BYTES);
+    }
+}
+
+int main(int argc, char **argv) {
+    static const Sheet none;
+    Call nothing = call(NONE, "nothing", &none, &none);
+    struct sigaction s;
+    uint8_t *mapped = mmap(NULL, GUARD + PAINTED, PROT_READ | PROT_WRITE, MAP_PRIVATE | MAP_ANONYMOUS, -1, 0);
+    int i;
+    (void)argv;
+    must(mapped != MAP_FAILED && mprotect(mapped, GUARD, PROT_NONE) == 0, "memory for a stack");
+    stack = mapped + GUARD;
+    talks = argc > 1;
+    memset(&s, 0, sizeof s);
+    s.sa_handler = overflow;
+    s.sa_flags = SA_ONSTACK;
+    must(sigaction(SIGSEGV, &s, NULL) == 0 && sigaction(SIGBUS, &s, NULL) == 0, "signal handler");
+    lowest(&nothing); /* the first thread binds what threads call */
+    own = (size_t)(stack + PAINTED - lowest(&nothing) + 63) / 64 * 64;
+    if (talks) printf("a thread by itself takes %lu\n", (unsigned long)own);
+    make_pairs();
+    for (i = 0; i < pair_count; i++) {
+        test_converting(&pairs[i]);
+        test_refused(&pairs[i]);
+        test_sheet(pairs[i].name, &pairs[i].from);
+        test_sheet(pairs[i].name, &pairs[i].to);
+    }
+    test_no_path("no path, 128", deep_arrays, 128, YIRVAGUL_SMALL_STACK_BYTES);
+    test_no_path("no path, 4,096", deep_arrays, 4096, YIRVAGUL_STACK_BYTES);
+    test_setters();
+    return failed;
+}
