@@ -4,7 +4,8 @@ use mathlib.Core.List.{List}
 use Prim.Native.Nat.{ℕ}
 use Rattle.answer.specs.declared.Answer.{Answer}
 use Rattle.runs.specs.Run.{Run, answer, after, tableAfter, Answers}
-use Rattle.capi.specs.Calls.{Gives, Answered, Called, Converts}
+use Rattle.answer_words.specs.AnswerWords.{Gives}
+use Rattle.capi.specs.Calls.{Answered, Called, Converts}
 
 module _ {a b : Answer} {lent table words : List ℕ} {r : ℕ} (e : b ≡ a) (t : table ≡ tableAfter b lent) (g : Gives b r words) where
   pub answered : Answered a lent r words table

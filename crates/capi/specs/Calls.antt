@@ -1,20 +1,10 @@
 -- The calls that read sheets, with numbers for their answer: what each returns, and every word and byte that it leaves.
 use mathlib.Core.Path.{_≡_}
-use mathlib.Core.List.{List, [], _∷_}
+use mathlib.Core.List.{List}
 use Prim.Native.Nat.{ℕ}
 use Rattle.answer.specs.declared.Answer.{Answer}
-use Rattle.answer.specs.Answer.{numberOf, valuesOf}
+use Rattle.answer_words.specs.AnswerWords.{Gives}
 use Rattle.runs.specs.Run.{Run, answer, after, tableAfter}
-
--- an answer as eight words: its number, every field beside it, and two words for later, which are 0
-abbrev pub wordsOf : Answer → List ℕ
-wordsOf a =
-    numberOf a ∷ valuesOf a .count ∷ valuesOf a .line ∷ valuesOf a .«record» ∷ valuesOf a .at ∷ valuesOf a .kind ∷ 0 ∷ 0 ∷ []
-
--- an answer given to C: the returned number r, and the words
-pub record Gives (a : Answer) (r : ℕ) (words : List ℕ) : Type 0 where
-  pub number : r ≡ numberOf a
-  pub written : words ≡ wordsOf a
 
 -- a call that answers a, and leaves the table as every call leaves it
 pub record Answered (a : Answer) (lent : List ℕ) (r : ℕ) (words table : List ℕ) : Type 0 where

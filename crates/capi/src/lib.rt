@@ -3,32 +3,10 @@ ghost use lib.ListN.{length};
 ghost use Rattle.runs.specs.Run.{copyingRun, inPlaceRun, plain};
 ghost use Rattle.leaves.specs.LeafList.{answerOf as listAnswerOf, listAfter};
 ghost use Rattle.record_size.specs.RecordSize.{answerOf as sizeAnswerOf};
-ghost use Rattle.capi.specs.Calls.{Gives, Answered, Called, Converts};
-use answer::Answer;
-use answer::number_of;
-use answer::values_of;
+ghost use Rattle.capi.specs.Calls.{Answered, Called, Converts};
+use answer_words::give;
 
-pub mod codes;
 pub mod setters;
-
-// Writes an answer's words and gives its number.
-fn give(a: Answer, words: &mut [u64; 8]) -> u32
-    ensures { λ r. ⌜ Gives a r (now (words .exit)) ⌝ }
-{
-    let number = number_of(a);
-    let v = values_of(a);
-    *words = [
-        number as u64,
-        v.count,
-        v.line as u64,
-        v.record as u64,
-        v.at as u64,
-        v.kind as u64,
-        0,
-        0,
-    ];
-    number
-}
 
 // Copying: the destination's own bytes are the background.
 #[no_mangle]

@@ -1,78 +1,43 @@
 // The setters for C: each edits a layout's eight words where they lie.
 ghost use mathlib.Core.Path.{_≡_};
 ghost use mathlib.Core.Bool.{true, _&&_};
-ghost use Prim.Native.Nat.{_<_, _^_};
 ghost use lib.Dec.{leb};
 ghost use Rattle.layout.specs.Setters.Edit.{size as ofSize, order as ofOrder, precision as ofPrecision, offset as ofOffset, pads as ofPads, sign as ofSign};
-ghost use Rattle.capi.specs.Codes.{orderOf, padOf, signOf, outcome, setterCall};
-use crate::codes::both;
-use crate::codes::is_coded;
-use crate::codes::layout_of;
-use crate::codes::layout_words;
-use crate::codes::order_of;
-use crate::codes::pad_of;
-use answer::number_of;
-use bits::BitAt;
-use bits::ByteAt;
-use layout::Edited;
-
-// Where all words and arguments are codes, the edited layout's words and the setter's number; else RANGE, and the words stay.
-fn put(coded: bool, e: Edited, layout: &mut [u32; 8]) -> u32
-    requires { ⌜ e .layout .size .0 < 2 ^ 32 ⌝ }
-    ensures { λ r. ⌜ record { number = r; words = now (layout .exit) } ≡ outcome coded e (now (layout .entry)) ⌝ }
-{
-    if !coded {
-        return 9;
-    }
-    let l = e.layout;
-    let a = e.answer;
-    *layout = layout_words(l);
-    number_of(a)
-}
+ghost use Rattle.layout_words.specs.Codes.{orderOf, padOf, signOf, setterCall};
 
 #[no_mangle]
 pub extern "C" fn yirvagul_set_size(layout: &mut [u32; 8], size: u32) -> u32
     ensures { λ r. ⌜ record { number = r; words = now (layout .exit) } ≡ setterCall true (ofSize size) (now (layout .entry)) ⌝ }
 {
-    let w = *layout;
-    let e = layout_setters::set_size(layout_of(w), ByteAt(size as usize));
-    put(is_coded(w), e, layout)
+    layout_words::setters::set_size(layout, size)
 }
 
 #[no_mangle]
 pub extern "C" fn yirvagul_set_order(layout: &mut [u32; 8], order: u32) -> u32
     ensures { λ r. ⌜ record { number = r; words = now (layout .exit) } ≡ setterCall (leb order 1) (ofOrder (orderOf order)) (now (layout .entry)) ⌝ }
 {
-    let w = *layout;
-    let e = layout_setters::set_order(layout_of(w), order_of(order));
-    put(both(order <= 1, is_coded(w)), e, layout)
+    layout_words::setters::set_order(layout, order)
 }
 
 #[no_mangle]
 pub extern "C" fn yirvagul_set_precision(layout: &mut [u32; 8], precision: u32) -> u32
     ensures { λ r. ⌜ record { number = r; words = now (layout .exit) } ≡ setterCall true (ofPrecision precision) (now (layout .entry)) ⌝ }
 {
-    let w = *layout;
-    let e = layout_setters::set_precision(layout_of(w), precision);
-    put(is_coded(w), e, layout)
+    layout_words::setters::set_precision(layout, precision)
 }
 
 #[no_mangle]
 pub extern "C" fn yirvagul_set_offset(layout: &mut [u32; 8], offset: u32) -> u32
     ensures { λ r. ⌜ record { number = r; words = now (layout .exit) } ≡ setterCall true (ofOffset offset) (now (layout .entry)) ⌝ }
 {
-    let w = *layout;
-    let e = layout_setters::set_offset(layout_of(w), BitAt(offset));
-    put(is_coded(w), e, layout)
+    layout_words::setters::set_offset(layout, offset)
 }
 
 #[no_mangle]
 pub extern "C" fn yirvagul_set_pads(layout: &mut [u32; 8], lsb: u32, msb: u32) -> u32
     ensures { λ r. ⌜ record { number = r; words = now (layout .exit) } ≡ setterCall (leb lsb 2 && leb msb 2) (ofPads (padOf lsb) (padOf msb)) (now (layout .entry)) ⌝ }
 {
-    let w = *layout;
-    let e = layout_setters::set_pads(layout_of(w), pad_of(lsb), pad_of(msb));
-    put(both(both(lsb <= 2, msb <= 2), is_coded(w)), e, layout)
+    layout_words::setters::set_pads(layout, lsb, msb)
 }
 
 // Refused on a bits layout.
@@ -80,7 +45,5 @@ pub extern "C" fn yirvagul_set_pads(layout: &mut [u32; 8], lsb: u32, msb: u32) -
 pub extern "C" fn yirvagul_set_sign(layout: &mut [u32; 8], sign: u32) -> u32
     ensures { λ r. ⌜ record { number = r; words = now (layout .exit) } ≡ setterCall (leb sign 1) (ofSign (signOf sign)) (now (layout .entry)) ⌝ }
 {
-    let w = *layout;
-    let e = layout_setters::set_sign(layout_of(w), sign == 1);
-    put(both(sign <= 1, is_coded(w)), e, layout)
+    layout_words::setters::set_sign(layout, sign)
 }

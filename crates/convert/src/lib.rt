@@ -7,16 +7,14 @@ ghost use Rattle.runs.specs.Run.{copyingRun, inPlaceRun, plain, Answers};
 ghost use Rattle.runs.specs.Run.Checked.{passed};
 ghost use Rattle.two_sheets.specs.TwoSheets.{first, second};
 ghost use Rattle.conversion.specs.Call.{LeavesIn, Passes, sheetsChecked};
-use crate::frames::copy_framed;
-use crate::frames::replace_framed;
 use answer::Answer;
 use checking::check_sheets;
 use conversion::Checks;
+use frames::copy_framed;
+use frames::replace_framed;
 use table::HALF;
 use table::TABLE;
 use table::store::clear;
-
-mod frames;
 
 // The types i and k stand in the halves of the table, and no check refuses.
 fn convert_checked(

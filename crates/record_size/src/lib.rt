@@ -7,6 +7,9 @@ ghost use Rattle.record_size.specs.RecordSize.{sizeAnswer, answerOf};
 use answer::Answer;
 use reading::read_sheet;
 use sheet_steps::SheetRead;
+use table::HALF;
+use table::SIZE;
+use table::TABLE;
 use table::read::type_word;
 use table::store::clear;
 
@@ -16,7 +19,7 @@ fn sheet_size(sheet: &[u8], half: &mut [u32]) -> Answer
     ensures { λ r. ⌜ r ≡ sizeAnswer (sheetOf (now (sheet .entry))) ⌝ }
 {
     match read_sheet(sheet, half) {
-        SheetRead::Types(n, _) => Answer::Done(type_word(half, (n - 1) as usize, 1) as u64),
+        SheetRead::Types(n, _) => Answer::Done(type_word(half, (n - 1) as usize, SIZE) as u64),
         SheetRead::Faulty(k) => Answer::Source(k),
     }
 }
@@ -26,10 +29,10 @@ pub fn record_size(sheet: &[u8], table: &mut [u32]) -> Answer
     ensures answer { λ r. ⌜ r ≡ answerOf (now (sheet .entry)) (length (now (table .entry))) ⌝ }
     ensures table { λ r. ⌜ now (table .exit) ≡ tableAfter r (now (table .entry)) ⌝ }
 {
-    if table.len() < 8192 {
+    if table.len() < TABLE {
         return Answer::Table;
     }
-    let a = sheet_size(sheet, &mut table[..4096]);
-    clear(table, 8192);
+    let a = sheet_size(sheet, &mut table[..HALF]);
+    clear(table, TABLE);
     a
 }

@@ -3,7 +3,7 @@ use mathlib.Core.Path.{sym}
 use native.Mathlib.Omega.{arith}
 use lib.Seq.{length-take-le}
 use borrow.Author.Needs.{needs}
-use Rattle.convert.proofs.Framed.{framed-asked, framed-left}
+use Rattle.convert.proofs.Parts.{framed-asked, framed-left}
 use Rattle.convert.proofs.convert_checked.Statement.{statement}
 use Rattle.convert.proofs.convert_checked.Tie as tie
 

@@ -1,6 +1,6 @@
 -- `convert::convert_within` meets its contract. Assumes nothing.
 use borrow.Author.Needs.{needs}
-use Rattle.convert.proofs.Framed.{refuse-left, passes-are, pass-left}
+use Rattle.convert.proofs.Parts.{refuse-left, passes-are, pass-left}
 use Rattle.convert.proofs.convert_within.Statement.{statement}
 use Rattle.convert.proofs.convert_within.Tie as tie
 

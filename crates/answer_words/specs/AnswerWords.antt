@@ -1,0 +1,16 @@
+-- An answer as eight words.
+use mathlib.Core.Path.{_≡_}
+use mathlib.Core.List.{List, [], _∷_}
+use Prim.Native.Nat.{ℕ}
+use Rattle.answer.specs.declared.Answer.{Answer}
+use Rattle.answer.specs.Answer.{numberOf, valuesOf}
+
+-- its number, every field beside it, and two words for later, which are 0
+abbrev pub wordsOf : Answer → List ℕ
+wordsOf a =
+    numberOf a ∷ valuesOf a .count ∷ valuesOf a .line ∷ valuesOf a .«record» ∷ valuesOf a .at ∷ valuesOf a .kind ∷ 0 ∷ 0 ∷ []
+
+-- an answer given to C: the returned number r, and the words
+pub record Gives (a : Answer) (r : ℕ) (words : List ℕ) : Type 0 where
+  pub number : r ≡ numberOf a
+  pub written : words ≡ wordsOf a
