@@ -17,92 +17,134 @@ use two_sheets::read_sheets;
 // "6 COUNT: n above 65,536"
 const MOST_RECORDS: u64 = 65536;
 
-// Whether the buffers, by their lengths, have room for c records of s bytes and as many of d bytes: `out` is the one that is written.
-fn has_room(in_place: bool, c: usize, s: usize, d: usize, out: usize, other: usize) -> bool
-    requires { ⌜ (c ≤ 65536) × (s ≤ 4096) × (d ≤ 4096) ⌝ }
-    ensures { λ r. ⌜ r ≡ hasRoom (formOf «in_place») c s d (sourceOf «in_place» out other) (backgroundOf «in_place» out other) ⌝ }
+// Whether the buffers, by their lengths, have room for so many source records and as many destination records: `out` is the one that is written.
+fn has_room(
+    in_place: bool,
+    count: usize,
+    source_size: usize,
+    destination_size: usize,
+    out: usize,
+    other: usize,
+) -> bool
+    requires { ⌜ (count ≤ 65536) × («source_size» ≤ 4096) × («destination_size» ≤ 4096) ⌝ }
+    ensures { λ r. ⌜ r ≡ hasRoom (formOf «in_place») count «source_size» «destination_size» (sourceOf «in_place» out other) (backgroundOf «in_place» out other) ⌝ }
 {
     if in_place {
-        if out < c * s {
+        if out < count * source_size {
             return false;
         }
-        if out < c * d {
+        if out < count * destination_size {
             return false;
         }
-        return c * d <= other;
+        return count * destination_size <= other;
     }
-    if other < c * s {
+    if other < count * source_size {
         return false;
     }
-    c * d <= out
+    count * destination_size <= out
 }
 
 // Checks 5 to 7, of types that were read.
 fn check_types(
     in_place: bool,
-    ss: &[u8],
-    ds: &[u8],
+    source_sheet: &[u8],
+    destination_sheet: &[u8],
     count: u64,
     out: usize,
     other: usize,
-    ws: &[u32],
-    i: usize,
-    wd: &[u32],
-    k: usize,
+    source_half: &[u32],
+    source_type: usize,
+    destination_half: &[u32],
+    destination_type: usize,
 ) -> Checks
-    requires { ⌜ Both (now ss) (now ws) i (now ds) (now wd) k ⌝ }
-    ensures { λ r. ⌜ TypesSay «in_place» (now (ss .entry)) (now (ds .entry)) count out other (now (ws .entry)) i (now (wd .entry)) k r ⌝ }
+    requires { ⌜ Both (now «source_sheet») (now «source_half») «source_type» (now «destination_sheet») (now «destination_half») «destination_type» ⌝ }
+    ensures { λ r. ⌜ TypesSay «in_place» (now («source_sheet» .entry)) (now («destination_sheet» .entry)) count out other (now («source_half» .entry)) «source_type» (now («destination_half» .entry)) «destination_type» r ⌝ }
 {
-    if !has_path(ws, ss, i, wd, ds, k) {
+    if !has_path(
+        source_half,
+        source_sheet,
+        source_type,
+        destination_half,
+        destination_sheet,
+        destination_type,
+    ) {
         return Checks::Refuse(Answer::Path);
     }
     if MOST_RECORDS < count {
         return Checks::Refuse(Answer::Count);
     }
-    let s = type_word(ws, i, SIZE);
-    let d = type_word(wd, k, SIZE);
-    if !has_room(in_place, count as usize, s, d, out, other) {
+    let source_size = type_word(source_half, source_type, SIZE);
+    let destination_size = type_word(destination_half, destination_type, SIZE);
+    if !has_room(
+        in_place,
+        count as usize,
+        source_size,
+        destination_size,
+        out,
+        other,
+    ) {
         return Checks::Refuse(Answer::Room);
     }
-    Checks::Pass(i, k)
+    Checks::Pass(source_type, destination_type)
 }
 
 // The same of types in the halves of the table.
 fn check_halves(
     in_place: bool,
-    ss: &[u8],
-    ds: &[u8],
+    source_sheet: &[u8],
+    destination_sheet: &[u8],
     count: u64,
     out: usize,
     other: usize,
     table: &[u32],
-    i: usize,
-    k: usize,
+    source_type: usize,
+    destination_type: usize,
 ) -> Checks
-    requires { ⌜ ReadAs (now ss) (now ds) (now table) (Sheets.Types i k) × (length (now table) ≡ 8192) ⌝ }
-    ensures { λ r. ⌜ SheetsSay «in_place» (now (ss .entry)) (now (ds .entry)) count out other (now (table .entry)) r ⌝ }
+    requires { ⌜ ReadAs (now «source_sheet») (now «destination_sheet») (now table) (Sheets.Types «source_type» «destination_type») × (length (now table) ≡ 8192) ⌝ }
+    ensures { λ r. ⌜ SheetsSay «in_place» (now («source_sheet» .entry)) (now («destination_sheet» .entry)) count out other (now (table .entry)) r ⌝ }
 {
-    let ws = &table[..HALF];
-    let wd = &table[HALF..];
-    check_types(in_place, ss, ds, count, out, other, ws, i, wd, k)
+    let source_half = &table[..HALF];
+    let destination_half = &table[HALF..];
+    check_types(
+        in_place,
+        source_sheet,
+        destination_sheet,
+        count,
+        out,
+        other,
+        source_half,
+        source_type,
+        destination_half,
+        destination_type,
+    )
 }
 
 // Checks 3 to 7. The table then holds what was read of the sheets.
 pub fn check_sheets(
     in_place: bool,
-    ss: &[u8],
-    ds: &[u8],
+    source_sheet: &[u8],
+    destination_sheet: &[u8],
     count: u64,
     out: usize,
     other: usize,
     table: &mut [u32],
 ) -> Checks
     requires { ⌜ length (now table) ≡ 8192 ⌝ }
-    ensures { λ r. ⌜ SheetsSay «in_place» (now (ss .entry)) (now (ds .entry)) count out other (now (table .exit)) r × (length (now (table .exit)) ≡ 8192) ⌝ }
+    ensures { λ r. ⌜ SheetsSay «in_place» (now («source_sheet» .entry)) (now («destination_sheet» .entry)) count out other (now (table .exit)) r × (length (now (table .exit)) ≡ 8192) ⌝ }
 {
-    match read_sheets(ss, ds, table) {
+    match read_sheets(source_sheet, destination_sheet, table) {
         Sheets::Source(line) => Checks::Refuse(Answer::Source(line)),
         Sheets::Destination(line) => Checks::Refuse(Answer::Destination(line)),
-        Sheets::Types(i, k) => check_halves(in_place, ss, ds, count, out, other, table, i, k),
+        Sheets::Types(source_type, destination_type) => check_halves(
+            in_place,
+            source_sheet,
+            destination_sheet,
+            count,
+            out,
+            other,
+            table,
+            source_type,
+            destination_type,
+        ),
     }
 }

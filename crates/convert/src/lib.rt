@@ -16,35 +16,57 @@ use table::HALF;
 use table::TABLE;
 use table::store::clear;
 
-// The types i and k stand in the halves of the table, and no check refuses.
+// The two types stand in the halves of the table, and no check refuses.
 fn convert_checked(
     in_place: bool,
-    ss: &[u8],
-    ds: &[u8],
+    source_sheet: &[u8],
+    destination_sheet: &[u8],
     count: usize,
     handling: u32,
     out: &mut [u8],
     other: &[u8],
     table: &[u32],
-    i: usize,
-    k: usize,
+    source_type: usize,
+    destination_type: usize,
 ) -> Answer
-    requires { ⌜ Passes «in_place» (now ss) (now ds) count (length (now out)) (length (now other)) (first (now table)) i (second (now table)) k × (length (now table) ≡ 8192) × (handling ≤ 1) ⌝ }
-    ensures { λ r. ⌜ LeavesIn «in_place» handling count (now (out .entry)) (now (other .entry)) (passed (typeAt (first (now (table .entry))) (now (ss .entry)) i) (typeAt (second (now (table .entry))) (now (ds .entry)) k)) r (now (out .exit)) ⌝ }
+    requires { ⌜ Passes «in_place» (now «source_sheet») (now «destination_sheet») count (length (now out)) (length (now other)) (first (now table)) «source_type» (second (now table)) «destination_type» × (length (now table) ≡ 8192) × (handling ≤ 1) ⌝ }
+    ensures { λ r. ⌜ LeavesIn «in_place» handling count (now (out .entry)) (now (other .entry)) (passed (typeAt (first (now (table .entry))) (now («source_sheet» .entry)) «source_type») (typeAt (second (now (table .entry))) (now («destination_sheet» .entry)) «destination_type»)) r (now (out .exit)) ⌝ }
 {
-    let ws = &table[..HALF];
-    let wd = &table[HALF..];
+    let source_half = &table[..HALF];
+    let destination_half = &table[HALF..];
     if in_place {
-        return replace_framed(handling, count, i, k, ss, ds, out, other, ws, wd);
+        return replace_framed(
+            handling,
+            count,
+            source_type,
+            destination_type,
+            source_sheet,
+            destination_sheet,
+            out,
+            other,
+            source_half,
+            destination_half,
+        );
     }
-    copy_framed(handling, count, i, k, ss, ds, out, other, ws, wd)
+    copy_framed(
+        handling,
+        count,
+        source_type,
+        destination_type,
+        source_sheet,
+        destination_sheet,
+        out,
+        other,
+        source_half,
+        destination_half,
+    )
 }
 
 // Checks 3 to 7, and the conversion: `out` is the buffer that is written. What the table holds afterwards is left open.
 fn convert_within(
     in_place: bool,
-    ss: &[u8],
-    ds: &[u8],
+    source_sheet: &[u8],
+    destination_sheet: &[u8],
     count: u64,
     handling: u32,
     out: &mut [u8],
@@ -52,21 +74,29 @@ fn convert_within(
     table: &mut [u32],
 ) -> Answer
     requires { ⌜ (handling ≤ 1) × (length (now table) ≡ 8192) ⌝ }
-    ensures { λ r. ⌜ LeavesIn «in_place» handling count (now (out .entry)) (now (other .entry)) (sheetsChecked «in_place» (now (ss .entry)) (now (ds .entry)) count (length (now (out .entry))) (length (now (other .entry)))) r (now (out .exit)) ⌝ }
+    ensures { λ r. ⌜ LeavesIn «in_place» handling count (now (out .entry)) (now (other .entry)) (sheetsChecked «in_place» (now («source_sheet» .entry)) (now («destination_sheet» .entry)) count (length (now (out .entry))) (length (now (other .entry)))) r (now (out .exit)) ⌝ }
 {
-    match check_sheets(in_place, ss, ds, count, out.len(), other.len(), table) {
+    match check_sheets(
+        in_place,
+        source_sheet,
+        destination_sheet,
+        count,
+        out.len(),
+        other.len(),
+        table,
+    ) {
         Checks::Refuse(a) => a,
-        Checks::Pass(i, k) => convert_checked(
+        Checks::Pass(source_type, destination_type) => convert_checked(
             in_place,
-            ss,
-            ds,
+            source_sheet,
+            destination_sheet,
             count as usize,
             handling,
             out,
             other,
             table,
-            i,
-            k,
+            source_type,
+            destination_type,
         ),
     }
 }

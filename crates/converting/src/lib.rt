@@ -18,22 +18,44 @@ fn convert_records(
     in_place: bool,
     out: &mut [u8],
     other: &[u8],
-    c: usize,
-    s: usize,
-    d: usize,
+    count: usize,
+    source_size: usize,
+    destination_size: usize,
     plan: &[u32],
-    n: usize,
-    ws: &[u32],
-    wd: &[u32],
+    entries: usize,
+    source_half: &[u32],
+    destination_half: &[u32],
     words: &[u32],
 ) -> u64
-    requires { ⌜ Job s d (now plan) n (now ws) (now wd) (now words) × HasRecords «in_place» c s d (length (now out)) (length (now other)) ⌝ }
-    ensures { λ r. ⌜ ((j : Job s d (now (plan .entry)) n (now (ws .entry)) (now (wd .entry)) (now (words .entry))) → ConvertsIn «in_place» (j .source) (j .destination) c (now (out .entry)) (now (other .entry)) (now (out .exit)) r) ⌝ }
+    requires { ⌜ Job «source_size» «destination_size» (now plan) entries (now «source_half») (now «destination_half») (now words) × HasRecords «in_place» count «source_size» «destination_size» (length (now out)) (length (now other)) ⌝ }
+    ensures { λ r. ⌜ ((j : Job «source_size» «destination_size» (now (plan .entry)) entries (now («source_half» .entry)) (now («destination_half» .entry)) (now (words .entry))) → ConvertsIn «in_place» (j .source) (j .destination) count (now (out .entry)) (now (other .entry)) (now (out .exit)) r) ⌝ }
 {
     if in_place {
-        return replace_records(out, other, c, s, d, plan, n, ws, wd, words);
+        return replace_records(
+            out,
+            other,
+            count,
+            source_size,
+            destination_size,
+            plan,
+            entries,
+            source_half,
+            destination_half,
+            words,
+        );
     }
-    copy_records(other, out, c, s, d, plan, n, ws, wd, words)
+    copy_records(
+        other,
+        out,
+        count,
+        source_size,
+        destination_size,
+        plan,
+        entries,
+        source_half,
+        destination_half,
+        words,
+    )
 }
 
 // The first exception of the records.
@@ -41,21 +63,39 @@ fn first_stop(
     in_place: bool,
     out: &[u8],
     other: &[u8],
-    c: usize,
-    s: usize,
+    count: usize,
+    source_size: usize,
     plan: &[u32],
-    n: usize,
-    ws: &[u32],
-    wd: &[u32],
+    entries: usize,
+    source_half: &[u32],
+    destination_half: &[u32],
     words: &[u32],
 ) -> Stop
-    requires { ⌜ ((d : ℕ) × Job s d (now plan) n (now ws) (now wd) (now words) × HasRecords «in_place» c s d (length (now out)) (length (now other))) ⌝ }
-    ensures { λ r. ⌜ ((d : ℕ) (j : Job s d (now (plan .entry)) n (now (ws .entry)) (now (wd .entry)) (now (words .entry))) → r ≡ stopBy (planOf (j .source) (j .destination)) s (sourceOf «in_place» (now (out .entry)) (now (other .entry))) 0 c) ⌝ }
+    requires { ⌜ ((d : ℕ) × Job «source_size» d (now plan) entries (now «source_half») (now «destination_half») (now words) × HasRecords «in_place» count «source_size» d (length (now out)) (length (now other))) ⌝ }
+    ensures { λ r. ⌜ ((d : ℕ) (j : Job «source_size» d (now (plan .entry)) entries (now («source_half» .entry)) (now («destination_half» .entry)) (now (words .entry))) → r ≡ stopBy (planOf (j .source) (j .destination)) «source_size» (sourceOf «in_place» (now (out .entry)) (now (other .entry))) 0 count) ⌝ }
 {
     if in_place {
-        return first_exception(out, c, s, plan, n, ws, wd, words);
+        return first_exception(
+            out,
+            count,
+            source_size,
+            plan,
+            entries,
+            source_half,
+            destination_half,
+            words,
+        );
     }
-    first_exception(other, c, s, plan, n, ws, wd, words)
+    first_exception(
+        other,
+        count,
+        source_size,
+        plan,
+        entries,
+        source_half,
+        destination_half,
+        words,
+    )
 }
 
 // Handling 0 converts; handling 1 looks for the first exception before it writes anything.
@@ -64,34 +104,57 @@ pub fn convert_planned(
     handling: u32,
     out: &mut [u8],
     other: &[u8],
-    c: usize,
-    s: usize,
-    d: usize,
+    count: usize,
+    source_size: usize,
+    destination_size: usize,
     plan: &[u32],
-    n: usize,
-    ws: &[u32],
-    wd: &[u32],
+    entries: usize,
+    source_half: &[u32],
+    destination_half: &[u32],
     words: &[u32],
 ) -> Answer
-    requires { ⌜ Job s d (now plan) n (now ws) (now wd) (now words) × HasRecords «in_place» c s d (length (now out)) (length (now other)) × (handling ≤ 1) ⌝ }
-    ensures { λ r. ⌜ ((j : Job s d (now (plan .entry)) n (now (ws .entry)) (now (wd .entry)) (now (words .entry))) → LeavesIn «in_place» handling c (now (out .entry)) (now (other .entry)) (passed (j .source) (j .destination)) r (now (out .exit))) ⌝ }
+    requires { ⌜ Job «source_size» «destination_size» (now plan) entries (now «source_half») (now «destination_half») (now words) × HasRecords «in_place» count «source_size» «destination_size» (length (now out)) (length (now other)) × (handling ≤ 1) ⌝ }
+    ensures { λ r. ⌜ ((j : Job «source_size» «destination_size» (now (plan .entry)) entries (now («source_half» .entry)) (now («destination_half» .entry)) (now (words .entry))) → LeavesIn «in_place» handling count (now (out .entry)) (now (other .entry)) (passed (j .source) (j .destination)) r (now (out .exit))) ⌝ }
 {
     if handling == 0 {
-        return Answer::Done(convert_records(in_place, out, other, c, s, d, plan, n, ws, wd, words));
+        return Answer::Done(convert_records(
+            in_place,
+            out,
+            other,
+            count,
+            source_size,
+            destination_size,
+            plan,
+            entries,
+            source_half,
+            destination_half,
+            words,
+        ));
     }
-    match first_stop(in_place, out, other, c, s, plan, n, ws, wd, words) {
+    match first_stop(
+        in_place,
+        out,
+        other,
+        count,
+        source_size,
+        plan,
+        entries,
+        source_half,
+        destination_half,
+        words,
+    ) {
         Stop::At(i, b, kind) => Answer::Stop(i, b, kind),
         Stop::Nowhere => Answer::Done(convert_records(
             in_place,
             out,
             other,
-            c,
-            s,
-            d,
+            count,
+            source_size,
+            destination_size,
             plan,
-            n,
-            ws,
-            wd,
+            entries,
+            source_half,
+            destination_half,
             words,
         )),
     }

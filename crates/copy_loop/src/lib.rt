@@ -7,26 +7,45 @@ ghost use Rattle.plans.specs.PlanWords.{Job};
 use one_record::write_record;
 use single_loop::copy_single;
 
-// Converts c records of s bytes in src into c records of d bytes in dst, and counts the exceptions.
+// Converts so many source records in src into as many destination records in dst, and counts the exceptions.
 pub fn copy_records(
     src: &[u8],
     dst: &mut [u8],
-    c: usize,
-    s: usize,
-    d: usize,
+    count: usize,
+    source_size: usize,
+    destination_size: usize,
     plan: &[u32],
-    n: usize,
-    ws: &[u32],
-    wd: &[u32],
+    entries: usize,
+    source_half: &[u32],
+    destination_half: &[u32],
     words: &[u32],
 ) -> u64
-    requires { ⌜ Job s d (now plan) n (now ws) (now wd) (now words) × (c ≤ 65536) × (c * s ≤ length (now src)) × (c * d ≤ length (now dst)) ⌝ }
-    ensures { λ r. ⌜ ((j : Job s d (now (plan .entry)) n (now (ws .entry)) (now (wd .entry)) (now (words .entry))) → (now (dst .exit) ≡ copyResult (j .source) (j .destination) c (now (src .entry)) (now (dst .entry))) × (r ≡ exceptions (j .source) (j .destination) c (readings (j .source) (j .destination) (now (src .entry))))) ⌝ }
+    requires { ⌜ Job «source_size» «destination_size» (now plan) entries (now «source_half») (now «destination_half») (now words) × (count ≤ 65536) × (count * «source_size» ≤ length (now src)) × (count * «destination_size» ≤ length (now dst)) ⌝ }
+    ensures { λ r. ⌜ ((j : Job «source_size» «destination_size» (now (plan .entry)) entries (now («source_half» .entry)) (now («destination_half» .entry)) (now (words .entry))) → (now (dst .exit) ≡ copyResult (j .source) (j .destination) count (now (src .entry)) (now (dst .entry))) × (r ≡ exceptions (j .source) (j .destination) count (readings (j .source) (j .destination) (now (src .entry))))) ⌝ }
 {
     let mut total: u64 = 0;
-    let mut i = copy_single(src, dst, c, s, d, plan, n, ws, wd, words);
-    while i < c {
-        total += write_record(&src[i * s..], &mut dst[i * d..], plan, n, ws, wd, words);
+    let mut i = copy_single(
+        src,
+        dst,
+        count,
+        source_size,
+        destination_size,
+        plan,
+        entries,
+        source_half,
+        destination_half,
+        words,
+    );
+    while i < count {
+        total += write_record(
+            &src[i * source_size..],
+            &mut dst[i * destination_size..],
+            plan,
+            entries,
+            source_half,
+            destination_half,
+            words,
+        );
         i += 1;
     }
     total

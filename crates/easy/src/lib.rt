@@ -19,7 +19,12 @@ use bits::ByteAt;
 use bits::Order;
 use bits::bits_of;
 use bits::shift::ones;
+use entry_code::CARRY_HIGH;
+use entry_code::CARRY_LOW;
 use entry_code::EASY_LE;
+use entry_code::FOURTH;
+use entry_code::SECOND;
+use entry_code::THIRD;
 use entry_code::order_in;
 use entry_code::pack;
 use entry_code::precision_in;
@@ -39,31 +44,31 @@ pub const WINDOW: usize = 8;
 // What one of the carry's high half is worth.
 const HIGH: u64 = 4294967296;
 
-// Word k of w.
-pub fn at(w: &[u32], k: usize) -> usize
-    requires { ⌜ k < length (now w) ⌝ }
-    ensures { λ r. ⌜ Reads (getD (now (w .entry)) k 0) r ⌝ }
+// The word at a place.
+pub fn at(words: &[u32], place: usize) -> usize
+    requires { ⌜ place < length (now words) ⌝ }
+    ensures { λ r. ⌜ Reads (getD (now (words .entry)) place 0) r ⌝ }
 {
-    w[k] as usize
+    words[place] as usize
 }
 
 // Some bits of eight bytes, by the word for the order.
-pub fn raw_by(src: &[u8], a: usize, order: usize, shift: u32, precision: u32) -> u64
-    requires { ⌜ (a + 8 ≤ length (now src)) × (1 ≤ order) × (shift < 64) × (precision ≤ 64) ⌝ }
-    ensures { λ r. ⌜ (r ≡ field shift precision (container (orderOf (order - 1)) (take 8 (drop a (now (src .entry)))))) × (r < 2 ^ precision) ⌝ }
+pub fn raw_by(src: &[u8], source_byte: usize, order: usize, shift: u32, precision: u32) -> u64
+    requires { ⌜ («source_byte» + 8 ≤ length (now src)) × (1 ≤ order) × (shift < 64) × (precision ≤ 64) ⌝ }
+    ensures { λ r. ⌜ (r ≡ field shift precision (container (orderOf (order - 1)) (take 8 (drop «source_byte» (now (src .entry)))))) × (r < 2 ^ precision) ⌝ }
 {
     if order == EASY_LE {
-        return bits_le(src, ByteAt(a), BitAt(shift), precision);
+        return bits_le(src, ByteAt(source_byte), BitAt(shift), precision);
     }
-    bits_be(src, ByteAt(a), BitAt(shift), precision)
+    bits_be(src, ByteAt(source_byte), BitAt(shift), precision)
 }
 
-// Converts the leaf at byte a of src into the leaf at byte b of dst, by the numbers of an easy pair.
+// Converts the leaf at the source byte of src into the leaf at the destination byte of dst, by the numbers of an easy pair.
 pub fn convert_by(
     src: &[u8],
     dst: &mut [u8],
-    b: usize,
-    a: usize,
+    destination_byte: usize,
+    source_byte: usize,
     order: usize,
     shift: u32,
     precision: u32,
@@ -71,34 +76,47 @@ pub fn convert_by(
     size: usize,
     into: usize,
 )
-    requires { ⌜ ((l : Layout) × (m : Layout) × EasyBy l m order shift precision carry size into × (b + m .size .0 ≤ length (now dst))) × (a + 8 ≤ length (now src)) ⌝ }
-    ensures { λ _. ⌜ ((l m : Layout) → EasyBy l m order shift precision carry size into → b + m .size .0 ≤ length (now (dst .entry)) → now (dst .exit) ≡ stored m b (fitted m (numberAt l a (now (src .entry))) .raw) (now (dst .entry))) ⌝ }
+    requires { ⌜ ((l : Layout) × (m : Layout) × EasyBy l m order shift precision carry size into × («destination_byte» + m .size .0 ≤ length (now dst))) × («source_byte» + 8 ≤ length (now src)) ⌝ }
+    ensures { λ _. ⌜ ((l m : Layout) → EasyBy l m order shift precision carry size into → «destination_byte» + m .size .0 ≤ length (now (dst .entry)) → now (dst .exit) ≡ stored m «destination_byte» (fitted m (numberAt l «source_byte» (now (src .entry))) .raw) (now (dst .entry))) ⌝ }
 {
-    let raw = raw_by(src, a, order, shift, precision);
+    let raw = raw_by(src, source_byte, order, shift, precision);
     let wide = raw + carry * (raw >> (precision - 1));
-    storing::store(dst, ByteAt(b), ByteAt(size), order_of(into), wide);
+    storing::store(
+        dst,
+        ByteAt(destination_byte),
+        ByteAt(size),
+        order_of(into),
+        wide,
+    );
 }
 
-// The carry of the pair whose words stand from word k of w on.
-pub fn carry_at(w: &[u32], k: usize) -> u64
-    requires { ⌜ k + 4 ≤ length (now w) ⌝ }
-    ensures { λ r. ⌜ r ≡ getD (now (w .entry)) (k + 1) 0 + getD (now (w .entry)) (k + 2) 0 * 4294967296 ⌝ }
+// The carry of the pair whose words stand from a place on.
+pub fn carry_at(words: &[u32], place: usize) -> u64
+    requires { ⌜ place + 4 ≤ length (now words) ⌝ }
+    ensures { λ r. ⌜ r ≡ getD (now (words .entry)) (place + 1) 0 + getD (now (words .entry)) (place + 2) 0 * 4294967296 ⌝ }
 {
-    at(w, k + 1) as u64 + at(w, k + 2) as u64 * HIGH
+    at(words, place + CARRY_LOW) as u64 + at(words, place + CARRY_HIGH) as u64 * HIGH
 }
 
-// Converts as convert_by does, by the words from word k of w on.
-pub fn convert_easy(src: &[u8], dst: &mut [u8], b: usize, a: usize, w: &[u32], k: usize)
-    requires { ⌜ ((l : Layout) × (m : Layout) × EasyAt l m (now w) k × (b + m .size .0 ≤ length (now dst))) × (a + 8 ≤ length (now src)) × (k + 4 ≤ length (now w)) ⌝ }
-    ensures { λ _. ⌜ ((l m : Layout) → EasyAt l m (now (w .entry)) k → b + m .size .0 ≤ length (now (dst .entry)) → now (dst .exit) ≡ stored m b (fitted m (numberAt l a (now (src .entry))) .raw) (now (dst .entry))) ⌝ }
+// Converts as convert_by does, by the words from a place on.
+pub fn convert_easy(
+    src: &[u8],
+    dst: &mut [u8],
+    destination_byte: usize,
+    source_byte: usize,
+    words: &[u32],
+    place: usize,
+)
+    requires { ⌜ ((l : Layout) × (m : Layout) × EasyAt l m (now words) place × («destination_byte» + m .size .0 ≤ length (now dst))) × («source_byte» + 8 ≤ length (now src)) × (place + 4 ≤ length (now words)) ⌝ }
+    ensures { λ _. ⌜ ((l m : Layout) → EasyAt l m (now (words .entry)) place → «destination_byte» + m .size .0 ≤ length (now (dst .entry)) → now (dst .exit) ≡ stored m «destination_byte» (fitted m (numberAt l «source_byte» (now (src .entry))) .raw) (now (dst .entry))) ⌝ }
 {
-    let code = at(w, k);
-    let carry = carry_at(w, k);
+    let code = at(words, place);
+    let carry = carry_at(words, place);
     convert_by(
         src,
         dst,
-        b,
-        a,
+        destination_byte,
+        source_byte,
         route_in(code),
         shift_in(code),
         precision_in(code),
@@ -158,15 +176,15 @@ fn carry_of(signed: bool, p: u32, q: u32) -> u64
     if signed { ones(q) - ones(p) } else { 0 }
 }
 
-// Writes four words from word k of w on.
-pub fn put_four(w: &mut [u32], k: usize, a: u32, b: u32, c: u32, d: u32)
-    requires { ⌜ k + 4 ≤ length (now w) ⌝ }
-    ensures { λ _. ⌜ now (w .exit) ≡ withWords (now (w .entry)) k (a ∷ b ∷ c ∷ d ∷ []) ⌝ }
+// Writes four words from a place on.
+pub fn put_four(words: &mut [u32], place: usize, a: u32, b: u32, c: u32, d: u32)
+    requires { ⌜ place + 4 ≤ length (now words) ⌝ }
+    ensures { λ _. ⌜ now (words .exit) ≡ withWords (now (words .entry)) place (a ∷ b ∷ c ∷ d ∷ []) ⌝ }
 {
-    w[k] = a;
-    w[k + 1] = b;
-    w[k + 2] = c;
-    w[k + 3] = d;
+    words[place] = a;
+    words[place + SECOND] = b;
+    words[place + THIRD] = c;
+    words[place + FOURTH] = d;
 }
 
 // The packed word of a pair that is easy.
@@ -189,15 +207,15 @@ fn pack_easy(l: Layout, m: Layout) -> u32
 }
 
 // The words of a pair that is easy.
-fn put_easy(w: &mut [u32], k: usize, l: Layout, m: Layout)
-    requires { ⌜ Valid l × Valid m × (l .precision ≤ m .precision) × (k + 4 ≤ length (now w)) ⌝ }
-    ensures { λ _. ⌜ now (w .exit) ≡ withWords (now (w .entry)) k (wordsOf l m) ⌝ }
+fn put_easy(words: &mut [u32], place: usize, l: Layout, m: Layout)
+    requires { ⌜ Valid l × Valid m × (l .precision ≤ m .precision) × (place + 4 ≤ length (now words)) ⌝ }
+    ensures { λ _. ⌜ now (words .exit) ≡ withWords (now (words .entry)) place (wordsOf l m) ⌝ }
 {
     let code = pack_easy(l, m);
     let carry = carry_of(l.signed, l.precision, m.precision);
     let low = (carry % HIGH) as u32;
     let high = (carry / HIGH) as u32;
-    put_four(w, k, code, low, high, 0);
+    put_four(words, place, code, low, high, 0);
 }
 
 // Whether l and m are valid and easy.
@@ -213,14 +231,14 @@ fn have_words(l: Layout, m: Layout) -> bool
     is_easy(l, m)
 }
 
-// From word k of w on: the words of l and m where they are valid and easy, else zeros.
-pub fn put_words(w: &mut [u32], k: usize, l: Layout, m: Layout)
-    requires { ⌜ k + 4 ≤ length (now w) ⌝ }
-    ensures { λ _. ⌜ now (w .exit) ≡ withWords (now (w .entry)) k (easyWords l m) ⌝ }
+// From a place on: the words of l and m where they are valid and easy, else zeros.
+pub fn put_words(words: &mut [u32], place: usize, l: Layout, m: Layout)
+    requires { ⌜ place + 4 ≤ length (now words) ⌝ }
+    ensures { λ _. ⌜ now (words .exit) ≡ withWords (now (words .entry)) place (easyWords l m) ⌝ }
 {
     if have_words(l, m) {
-        put_easy(w, k, l, m);
+        put_easy(words, place, l, m);
         return;
     }
-    put_four(w, k, 0, 0, 0, 0);
+    put_four(words, place, 0, 0, 0, 0);
 }

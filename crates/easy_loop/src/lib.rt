@@ -7,35 +7,35 @@ use easy::convert_by;
 use entry_code::EASY_BE;
 use entry_code::EASY_LE;
 
-// Converts the leaf at byte a of each of c records of s bytes into the leaf at byte b of a record of d bytes, by the numbers of an easy pair.
+// Converts the leaf at the source byte of each of so many source records into the leaf at the destination byte of a destination record, by the numbers of an easy pair.
 fn each_by(
     src: &[u8],
     dst: &mut [u8],
-    c: usize,
-    s: usize,
-    d: usize,
-    b: usize,
-    a: usize,
+    count: usize,
+    source_size: usize,
+    destination_size: usize,
+    destination_byte: usize,
+    source_byte: usize,
     order: usize,
     shift: u32,
-    p: u32,
+    precision: u32,
     carry: u64,
     size: usize,
     into: usize,
 )
-    requires { ⌜ ((l : Layout) × (m : Layout) × EachEasy l m c s d b a order shift p carry size into (length (now src)) (length (now dst))) ⌝ }
-    ensures { λ _. ⌜ ((l m : Layout) → EachEasy l m c s d b a order shift p carry size into (length (now (src .entry))) (length (now (dst .entry))) → now (dst .exit) ≡ eachLeaf l m s d b a (now (src .entry)) c (now (dst .entry))) ⌝ }
+    requires { ⌜ ((l : Layout) × (m : Layout) × EachEasy l m count «source_size» «destination_size» «destination_byte» «source_byte» order shift precision carry size into (length (now src)) (length (now dst))) ⌝ }
+    ensures { λ _. ⌜ ((l m : Layout) → EachEasy l m count «source_size» «destination_size» «destination_byte» «source_byte» order shift precision carry size into (length (now (src .entry))) (length (now (dst .entry))) → now (dst .exit) ≡ eachLeaf l m «source_size» «destination_size» «destination_byte» «source_byte» (now (src .entry)) count (now (dst .entry))) ⌝ }
 {
     let mut i: usize = 0;
-    while i < c {
+    while i < count {
         convert_by(
-            &src[i * s..],
-            &mut dst[i * d..],
-            b,
-            a,
+            &src[i * source_size..],
+            &mut dst[i * destination_size..],
+            destination_byte,
+            source_byte,
             order,
             shift,
-            p,
+            precision,
             carry,
             size,
             into,
@@ -49,32 +49,32 @@ fn each_by(
 fn each_le(
     src: &[u8],
     dst: &mut [u8],
-    c: usize,
-    s: usize,
-    d: usize,
-    b: usize,
-    a: usize,
+    count: usize,
+    source_size: usize,
+    destination_size: usize,
+    destination_byte: usize,
+    source_byte: usize,
     order: usize,
     shift: u32,
-    p: u32,
+    precision: u32,
     carry: u64,
     size: usize,
     into: usize,
 )
-    requires { ⌜ ((l : Layout) × (m : Layout) × EachEasy l m c s d b a order shift p carry size into (length (now src)) (length (now dst))) × (order ≡ 1) ⌝ }
-    ensures { λ _. ⌜ ((l m : Layout) → EachEasy l m c s d b a order shift p carry size into (length (now (src .entry))) (length (now (dst .entry))) → now (dst .exit) ≡ eachLeaf l m s d b a (now (src .entry)) c (now (dst .entry))) ⌝ }
+    requires { ⌜ ((l : Layout) × (m : Layout) × EachEasy l m count «source_size» «destination_size» «destination_byte» «source_byte» order shift precision carry size into (length (now src)) (length (now dst))) × (order ≡ 1) ⌝ }
+    ensures { λ _. ⌜ ((l m : Layout) → EachEasy l m count «source_size» «destination_size» «destination_byte» «source_byte» order shift precision carry size into (length (now (src .entry))) (length (now (dst .entry))) → now (dst .exit) ≡ eachLeaf l m «source_size» «destination_size» «destination_byte» «source_byte» (now (src .entry)) count (now (dst .entry))) ⌝ }
 {
     each_by(
         src,
         dst,
-        c,
-        s,
-        d,
-        b,
-        a,
+        count,
+        source_size,
+        destination_size,
+        destination_byte,
+        source_byte,
         EASY_LE,
         shift,
-        p,
+        precision,
         carry,
         size,
         into,
@@ -84,32 +84,32 @@ fn each_le(
 fn each_be(
     src: &[u8],
     dst: &mut [u8],
-    c: usize,
-    s: usize,
-    d: usize,
-    b: usize,
-    a: usize,
+    count: usize,
+    source_size: usize,
+    destination_size: usize,
+    destination_byte: usize,
+    source_byte: usize,
     order: usize,
     shift: u32,
-    p: u32,
+    precision: u32,
     carry: u64,
     size: usize,
     into: usize,
 )
-    requires { ⌜ ((l : Layout) × (m : Layout) × EachEasy l m c s d b a order shift p carry size into (length (now src)) (length (now dst))) × (order ≡ 1 → ⊥) ⌝ }
-    ensures { λ _. ⌜ ((l m : Layout) → EachEasy l m c s d b a order shift p carry size into (length (now (src .entry))) (length (now (dst .entry))) → now (dst .exit) ≡ eachLeaf l m s d b a (now (src .entry)) c (now (dst .entry))) ⌝ }
+    requires { ⌜ ((l : Layout) × (m : Layout) × EachEasy l m count «source_size» «destination_size» «destination_byte» «source_byte» order shift precision carry size into (length (now src)) (length (now dst))) × (order ≡ 1 → ⊥) ⌝ }
+    ensures { λ _. ⌜ ((l m : Layout) → EachEasy l m count «source_size» «destination_size» «destination_byte» «source_byte» order shift precision carry size into (length (now (src .entry))) (length (now (dst .entry))) → now (dst .exit) ≡ eachLeaf l m «source_size» «destination_size» «destination_byte» «source_byte» (now (src .entry)) count (now (dst .entry))) ⌝ }
 {
     each_by(
         src,
         dst,
-        c,
-        s,
-        d,
-        b,
-        a,
+        count,
+        source_size,
+        destination_size,
+        destination_byte,
+        source_byte,
         EASY_BE,
         shift,
-        p,
+        precision,
         carry,
         size,
         into,
@@ -119,122 +119,300 @@ fn each_be(
 fn each_1(
     src: &[u8],
     dst: &mut [u8],
-    c: usize,
-    s: usize,
-    d: usize,
-    b: usize,
-    a: usize,
+    count: usize,
+    source_size: usize,
+    destination_size: usize,
+    destination_byte: usize,
+    source_byte: usize,
     order: usize,
     shift: u32,
-    p: u32,
+    precision: u32,
     carry: u64,
     into: usize,
 )
-    requires { ⌜ ((l : Layout) × (m : Layout) × EachEasy l m c s d b a order shift p carry 1 into (length (now src)) (length (now dst))) ⌝ }
-    ensures { λ _. ⌜ ((l m : Layout) → EachEasy l m c s d b a order shift p carry 1 into (length (now (src .entry))) (length (now (dst .entry))) → now (dst .exit) ≡ eachLeaf l m s d b a (now (src .entry)) c (now (dst .entry))) ⌝ }
+    requires { ⌜ ((l : Layout) × (m : Layout) × EachEasy l m count «source_size» «destination_size» «destination_byte» «source_byte» order shift precision carry 1 into (length (now src)) (length (now dst))) ⌝ }
+    ensures { λ _. ⌜ ((l m : Layout) → EachEasy l m count «source_size» «destination_size» «destination_byte» «source_byte» order shift precision carry 1 into (length (now (src .entry))) (length (now (dst .entry))) → now (dst .exit) ≡ eachLeaf l m «source_size» «destination_size» «destination_byte» «source_byte» (now (src .entry)) count (now (dst .entry))) ⌝ }
 {
     if order == EASY_LE {
-        each_le(src, dst, c, s, d, b, a, order, shift, p, carry, 1, into);
+        each_le(
+            src,
+            dst,
+            count,
+            source_size,
+            destination_size,
+            destination_byte,
+            source_byte,
+            order,
+            shift,
+            precision,
+            carry,
+            1,
+            into,
+        );
     } else {
-        each_be(src, dst, c, s, d, b, a, order, shift, p, carry, 1, into);
+        each_be(
+            src,
+            dst,
+            count,
+            source_size,
+            destination_size,
+            destination_byte,
+            source_byte,
+            order,
+            shift,
+            precision,
+            carry,
+            1,
+            into,
+        );
     }
 }
 
 fn each_2(
     src: &[u8],
     dst: &mut [u8],
-    c: usize,
-    s: usize,
-    d: usize,
-    b: usize,
-    a: usize,
+    count: usize,
+    source_size: usize,
+    destination_size: usize,
+    destination_byte: usize,
+    source_byte: usize,
     order: usize,
     shift: u32,
-    p: u32,
+    precision: u32,
     carry: u64,
     into: usize,
 )
-    requires { ⌜ ((l : Layout) × (m : Layout) × EachEasy l m c s d b a order shift p carry 2 into (length (now src)) (length (now dst))) ⌝ }
-    ensures { λ _. ⌜ ((l m : Layout) → EachEasy l m c s d b a order shift p carry 2 into (length (now (src .entry))) (length (now (dst .entry))) → now (dst .exit) ≡ eachLeaf l m s d b a (now (src .entry)) c (now (dst .entry))) ⌝ }
+    requires { ⌜ ((l : Layout) × (m : Layout) × EachEasy l m count «source_size» «destination_size» «destination_byte» «source_byte» order shift precision carry 2 into (length (now src)) (length (now dst))) ⌝ }
+    ensures { λ _. ⌜ ((l m : Layout) → EachEasy l m count «source_size» «destination_size» «destination_byte» «source_byte» order shift precision carry 2 into (length (now (src .entry))) (length (now (dst .entry))) → now (dst .exit) ≡ eachLeaf l m «source_size» «destination_size» «destination_byte» «source_byte» (now (src .entry)) count (now (dst .entry))) ⌝ }
 {
     if order == EASY_LE {
-        each_le(src, dst, c, s, d, b, a, order, shift, p, carry, 2, into);
+        each_le(
+            src,
+            dst,
+            count,
+            source_size,
+            destination_size,
+            destination_byte,
+            source_byte,
+            order,
+            shift,
+            precision,
+            carry,
+            2,
+            into,
+        );
     } else {
-        each_be(src, dst, c, s, d, b, a, order, shift, p, carry, 2, into);
+        each_be(
+            src,
+            dst,
+            count,
+            source_size,
+            destination_size,
+            destination_byte,
+            source_byte,
+            order,
+            shift,
+            precision,
+            carry,
+            2,
+            into,
+        );
     }
 }
 
 fn each_4(
     src: &[u8],
     dst: &mut [u8],
-    c: usize,
-    s: usize,
-    d: usize,
-    b: usize,
-    a: usize,
+    count: usize,
+    source_size: usize,
+    destination_size: usize,
+    destination_byte: usize,
+    source_byte: usize,
     order: usize,
     shift: u32,
-    p: u32,
+    precision: u32,
     carry: u64,
     into: usize,
 )
-    requires { ⌜ ((l : Layout) × (m : Layout) × EachEasy l m c s d b a order shift p carry 4 into (length (now src)) (length (now dst))) ⌝ }
-    ensures { λ _. ⌜ ((l m : Layout) → EachEasy l m c s d b a order shift p carry 4 into (length (now (src .entry))) (length (now (dst .entry))) → now (dst .exit) ≡ eachLeaf l m s d b a (now (src .entry)) c (now (dst .entry))) ⌝ }
+    requires { ⌜ ((l : Layout) × (m : Layout) × EachEasy l m count «source_size» «destination_size» «destination_byte» «source_byte» order shift precision carry 4 into (length (now src)) (length (now dst))) ⌝ }
+    ensures { λ _. ⌜ ((l m : Layout) → EachEasy l m count «source_size» «destination_size» «destination_byte» «source_byte» order shift precision carry 4 into (length (now (src .entry))) (length (now (dst .entry))) → now (dst .exit) ≡ eachLeaf l m «source_size» «destination_size» «destination_byte» «source_byte» (now (src .entry)) count (now (dst .entry))) ⌝ }
 {
     if order == EASY_LE {
-        each_le(src, dst, c, s, d, b, a, order, shift, p, carry, 4, into);
+        each_le(
+            src,
+            dst,
+            count,
+            source_size,
+            destination_size,
+            destination_byte,
+            source_byte,
+            order,
+            shift,
+            precision,
+            carry,
+            4,
+            into,
+        );
     } else {
-        each_be(src, dst, c, s, d, b, a, order, shift, p, carry, 4, into);
+        each_be(
+            src,
+            dst,
+            count,
+            source_size,
+            destination_size,
+            destination_byte,
+            source_byte,
+            order,
+            shift,
+            precision,
+            carry,
+            4,
+            into,
+        );
     }
 }
 
 fn each_8(
     src: &[u8],
     dst: &mut [u8],
-    c: usize,
-    s: usize,
-    d: usize,
-    b: usize,
-    a: usize,
+    count: usize,
+    source_size: usize,
+    destination_size: usize,
+    destination_byte: usize,
+    source_byte: usize,
     order: usize,
     shift: u32,
-    p: u32,
+    precision: u32,
     carry: u64,
     into: usize,
 )
-    requires { ⌜ ((l : Layout) × (m : Layout) × EachEasy l m c s d b a order shift p carry 8 into (length (now src)) (length (now dst))) ⌝ }
-    ensures { λ _. ⌜ ((l m : Layout) → EachEasy l m c s d b a order shift p carry 8 into (length (now (src .entry))) (length (now (dst .entry))) → now (dst .exit) ≡ eachLeaf l m s d b a (now (src .entry)) c (now (dst .entry))) ⌝ }
+    requires { ⌜ ((l : Layout) × (m : Layout) × EachEasy l m count «source_size» «destination_size» «destination_byte» «source_byte» order shift precision carry 8 into (length (now src)) (length (now dst))) ⌝ }
+    ensures { λ _. ⌜ ((l m : Layout) → EachEasy l m count «source_size» «destination_size» «destination_byte» «source_byte» order shift precision carry 8 into (length (now (src .entry))) (length (now (dst .entry))) → now (dst .exit) ≡ eachLeaf l m «source_size» «destination_size» «destination_byte» «source_byte» (now (src .entry)) count (now (dst .entry))) ⌝ }
 {
     if order == EASY_LE {
-        each_le(src, dst, c, s, d, b, a, order, shift, p, carry, 8, into);
+        each_le(
+            src,
+            dst,
+            count,
+            source_size,
+            destination_size,
+            destination_byte,
+            source_byte,
+            order,
+            shift,
+            precision,
+            carry,
+            8,
+            into,
+        );
     } else {
-        each_be(src, dst, c, s, d, b, a, order, shift, p, carry, 8, into);
+        each_be(
+            src,
+            dst,
+            count,
+            source_size,
+            destination_size,
+            destination_byte,
+            source_byte,
+            order,
+            shift,
+            precision,
+            carry,
+            8,
+            into,
+        );
     }
 }
 
 pub fn each_sized(
     src: &[u8],
     dst: &mut [u8],
-    c: usize,
-    s: usize,
-    d: usize,
-    b: usize,
-    a: usize,
+    count: usize,
+    source_size: usize,
+    destination_size: usize,
+    destination_byte: usize,
+    source_byte: usize,
     order: usize,
     shift: u32,
-    p: u32,
+    precision: u32,
     carry: u64,
     size: usize,
     into: usize,
 )
-    requires { ⌜ ((l : Layout) × (m : Layout) × EachEasy l m c s d b a order shift p carry size into (length (now src)) (length (now dst))) ⌝ }
-    ensures { λ _. ⌜ ((l m : Layout) → EachEasy l m c s d b a order shift p carry size into (length (now (src .entry))) (length (now (dst .entry))) → now (dst .exit) ≡ eachLeaf l m s d b a (now (src .entry)) c (now (dst .entry))) ⌝ }
+    requires { ⌜ ((l : Layout) × (m : Layout) × EachEasy l m count «source_size» «destination_size» «destination_byte» «source_byte» order shift precision carry size into (length (now src)) (length (now dst))) ⌝ }
+    ensures { λ _. ⌜ ((l m : Layout) → EachEasy l m count «source_size» «destination_size» «destination_byte» «source_byte» order shift precision carry size into (length (now (src .entry))) (length (now (dst .entry))) → now (dst .exit) ≡ eachLeaf l m «source_size» «destination_size» «destination_byte» «source_byte» (now (src .entry)) count (now (dst .entry))) ⌝ }
 {
     match size {
-        1 => each_1(src, dst, c, s, d, b, a, order, shift, p, carry, into),
-        2 => each_2(src, dst, c, s, d, b, a, order, shift, p, carry, into),
-        4 => each_4(src, dst, c, s, d, b, a, order, shift, p, carry, into),
-        8 => each_8(src, dst, c, s, d, b, a, order, shift, p, carry, into),
-        _ => each_by(src, dst, c, s, d, b, a, order, shift, p, carry, size, into),
+        1 => each_1(
+            src,
+            dst,
+            count,
+            source_size,
+            destination_size,
+            destination_byte,
+            source_byte,
+            order,
+            shift,
+            precision,
+            carry,
+            into,
+        ),
+        2 => each_2(
+            src,
+            dst,
+            count,
+            source_size,
+            destination_size,
+            destination_byte,
+            source_byte,
+            order,
+            shift,
+            precision,
+            carry,
+            into,
+        ),
+        4 => each_4(
+            src,
+            dst,
+            count,
+            source_size,
+            destination_size,
+            destination_byte,
+            source_byte,
+            order,
+            shift,
+            precision,
+            carry,
+            into,
+        ),
+        8 => each_8(
+            src,
+            dst,
+            count,
+            source_size,
+            destination_size,
+            destination_byte,
+            source_byte,
+            order,
+            shift,
+            precision,
+            carry,
+            into,
+        ),
+        _ => each_by(
+            src,
+            dst,
+            count,
+            source_size,
+            destination_size,
+            destination_byte,
+            source_byte,
+            order,
+            shift,
+            precision,
+            carry,
+            size,
+            into,
+        ),
     }
 }

@@ -18,6 +18,25 @@ pub const SPAN: usize = 5;
 
 pub const LOOKED_UP: usize = 6;
 
+// The words of an entry: the packed word, and three more, which go by the route.
+pub const SECOND: usize = 1;
+
+pub const THIRD: usize = 2;
+
+pub const FOURTH: usize = 3;
+
+// Of an easy pair: the two halves of its carry.
+pub const CARRY_LOW: usize = 1;
+
+pub const CARRY_HIGH: usize = 2;
+
+// Of a span: its lowest significant bits, how many from there on, and the word at which its rows begin.
+pub const SPAN_LOW: usize = 1;
+
+pub const SPAN_COUNT: usize = 2;
+
+pub const SPAN_ROWS: usize = 3;
+
 pub fn route_in(code: usize) -> usize
     ensures { λ r. ⌜ (r ≡ routeIn code) × (r < 8) ⌝ }
 {

@@ -10,6 +10,9 @@ ghost use Rattle.plans.specs.PlanEntries.{PairFormed, EntryPut, EntriesPut};
 ghost use Rattle.plans.specs.Spans.{EntryRoom, AllStanding};
 use easy::at;
 use easy::put_four;
+use entry_code::FOURTH;
+use entry_code::SECOND;
+use entry_code::THIRD;
 use pair_words::put_pair;
 use plan_words::entry;
 use plans::ENTRY_WORDS;
@@ -35,11 +38,11 @@ fn copy_entry(words: &mut [u32], h: usize, i: usize)
     requires { ⌜ (h < i) × (i < 4096) × (wordsPlace i + 4 ≤ length (now words)) ⌝ }
     ensures { λ _. ⌜ now (words .exit) ≡ withWords (now (words .entry)) (wordsPlace i) (getD (now (words .entry)) (wordsPlace h) 0 ∷ getD (now (words .entry)) (wordsPlace h + 1) 0 ∷ getD (now (words .entry)) (wordsPlace h + 2) 0 ∷ getD (now (words .entry)) (wordsPlace h + 3) 0 ∷ []) ⌝ }
 {
-    let k = NAMES + ENTRY_WORDS * h;
-    let a = words[k];
-    let b = words[k + 1];
-    let c = words[k + 2];
-    let d = words[k + 3];
+    let place = NAMES + ENTRY_WORDS * h;
+    let a = words[place];
+    let b = words[place + SECOND];
+    let c = words[place + THIRD];
+    let d = words[place + FOURTH];
     put_four(words, NAMES + ENTRY_WORDS * i, a, b, c, d);
 }
 
@@ -50,13 +53,13 @@ fn put_next(
     h: usize,
     i: usize,
     free: usize,
-    ws: &[u32],
-    ts: &[u8],
-    wd: &[u32],
-    td: &[u8],
+    source_half: &[u32],
+    source_sheet: &[u8],
+    destination_half: &[u32],
+    destination_sheet: &[u8],
 ) -> usize
-    requires { ⌜ (i < 4096) × (2 * i + 2 ≤ length (now plan)) × PairFormed (now ws) (now ts) (now wd) (now td) (sourceType (now plan) i) (destinationType (now plan) i) × EntryRoom (length (now words)) (wordsPlace i) free ⌝ }
-    ensures { λ r. ⌜ ((start : ℕ) → wordsPlace i + 4 ≤ start → start ≤ free → AllStanding (now (words .entry)) (now (plan .entry)) i start free (now (ws .entry)) (now (ts .entry)) (now (wd .entry)) (now (td .entry)) → EntryPut (now (words .entry)) (wordsPlace i) start free (now (ws .entry)) (now (ts .entry)) (now (wd .entry)) (now (td .entry)) (sourceType (now (plan .entry)) i) (destinationType (now (plan .entry)) i) (now (words .exit)) r) × (r ≤ length (now (words .entry))) ⌝ }
+    requires { ⌜ (i < 4096) × (2 * i + 2 ≤ length (now plan)) × PairFormed (now «source_half») (now «source_sheet») (now «destination_half») (now «destination_sheet») (sourceType (now plan) i) (destinationType (now plan) i) × EntryRoom (length (now words)) (wordsPlace i) free ⌝ }
+    ensures { λ r. ⌜ ((start : ℕ) → wordsPlace i + 4 ≤ start → start ≤ free → AllStanding (now (words .entry)) (now (plan .entry)) i start free (now («source_half» .entry)) (now («source_sheet» .entry)) (now («destination_half» .entry)) (now («destination_sheet» .entry)) → EntryPut (now (words .entry)) (wordsPlace i) start free (now («source_half» .entry)) (now («source_sheet» .entry)) (now («destination_half» .entry)) (now («destination_sheet» .entry)) (sourceType (now (plan .entry)) i) (destinationType (now (plan .entry)) i) (now (words .exit)) r) × (r ≤ length (now (words .entry))) ⌝ }
 {
     if same_types(plan, h, i) {
         copy_entry(words, h, i);
@@ -69,10 +72,10 @@ fn put_next(
         free,
         e.source,
         e.destination,
-        ws,
-        ts,
-        wd,
-        td,
+        source_half,
+        source_sheet,
+        destination_half,
+        destination_sheet,
     )
 }
 
@@ -89,25 +92,35 @@ fn note(last: &mut [u32], types: usize, i: usize) -> usize
     i
 }
 
-// The words of a plan's n entries.
+// The words of a plan's entries.
 pub fn put_entries(
     plan: &[u32],
-    n: usize,
-    ws: &[u32],
-    ts: &[u8],
-    wd: &[u32],
-    td: &[u8],
+    entries: usize,
+    source_half: &[u32],
+    source_sheet: &[u8],
+    destination_half: &[u32],
+    destination_sheet: &[u8],
     words: &mut [u32],
 )
-    requires { ⌜ (n ≤ 4096) × (2 * n ≤ length (now plan)) × (wordsPlace n ≤ length (now words)) × (length (now words) ≤ 65536) × ((i : ℕ) → i < n → PairFormed (now ws) (now ts) (now wd) (now td) (sourceType (now plan) i) (destinationType (now plan) i)) ⌝ }
-    ensures { λ _. ⌜ EntriesPut (now (words .entry)) (now (plan .entry)) n (now (ws .entry)) (now (ts .entry)) (now (wd .entry)) (now (td .entry)) (now (words .exit)) ⌝ }
+    requires { ⌜ (entries ≤ 4096) × (2 * entries ≤ length (now plan)) × (wordsPlace entries ≤ length (now words)) × (length (now words) ≤ 65536) × ((i : ℕ) → i < entries → PairFormed (now «source_half») (now «source_sheet») (now «destination_half») (now «destination_sheet») (sourceType (now plan) i) (destinationType (now plan) i)) ⌝ }
+    ensures { λ _. ⌜ EntriesPut (now (words .entry)) (now (plan .entry)) entries (now («source_half» .entry)) (now («source_sheet» .entry)) (now («destination_half» .entry)) (now («destination_sheet» .entry)) (now (words .exit)) ⌝ }
 {
     let mut last = [0u32; TYPES];
-    let mut free = NAMES + ENTRY_WORDS * n;
+    let mut free = NAMES + ENTRY_WORDS * entries;
     let mut i: usize = 0;
-    while i < n {
+    while i < entries {
         let h = note(&mut last, at(plan, 2 * i + 1), i);
-        free = put_next(words, plan, h, i, free, ws, ts, wd, td);
+        free = put_next(
+            words,
+            plan,
+            h,
+            i,
+            free,
+            source_half,
+            source_sheet,
+            destination_half,
+            destination_sheet,
+        );
         i += 1;
     }
 }

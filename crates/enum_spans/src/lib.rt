@@ -53,54 +53,84 @@ fn greatest(a: u64, b: u64) -> u64
     if a < b { b } else { a }
 }
 
-// The row of type s whose number these significant bits stand for.
-fn number_row(ws: &[u32], s: usize, raw: u64) -> Found
-    requires { ⌜ SymbolsFormed (now ws) s × (raw < 2 ^ layoutAt (now ws) s .precision) ⌝ }
-    ensures { λ r. ⌜ r ≡ numberRow (now (ws .entry)) s raw ⌝ }
+// The row of the source type whose number these significant bits stand for.
+fn number_row(source_half: &[u32], source_type: usize, raw: u64) -> Found
+    requires { ⌜ SymbolsFormed (now «source_half») «source_type» × (raw < 2 ^ layoutAt (now «source_half») «source_type» .precision) ⌝ }
+    ensures { λ r. ⌜ r ≡ numberRow (now («source_half» .entry)) «source_type» raw ⌝ }
 {
-    let l = layout_at(ws, s);
-    let first = type_word(ws, s, FIRST);
-    let rows = symbol_rows(ws, s);
+    let l = layout_at(source_half, source_type);
+    let first = type_word(source_half, source_type, FIRST);
+    let rows = symbol_rows(source_half, source_type);
     let z = split(number_of(l.signed, l.precision, raw));
-    row_numbered(ws, first, rows, z.negative, z.distance)
+    row_numbered(source_half, first, rows, z.negative, z.distance)
 }
 
-// The row of the destination enum d that has the name of source row j, in one word.
-fn named_row(ws: &[u32], ts: &[u8], wd: &[u32], td: &[u8], d: usize, j: usize) -> u32
-    requires { ⌜ RowsWithin (now wd) d ⌝ }
-    ensures { λ r. ⌜ r ≡ rowCode (rowNamed (now (wd .entry)) (now (td .entry)) (nameAt (now (ws .entry)) (now (ts .entry)) j) (firstWord (now (wd .entry)) d) (rowsWord (now (wd .entry)) d)) ⌝ }
+// The row of the destination enum that has the name of a source row, in one word.
+fn named_row(
+    source_half: &[u32],
+    source_sheet: &[u8],
+    destination_half: &[u32],
+    destination_sheet: &[u8],
+    destination_type: usize,
+    row: usize,
+) -> u32
+    requires { ⌜ RowsWithin (now «destination_half») «destination_type» ⌝ }
+    ensures { λ r. ⌜ r ≡ rowCode (rowNamed (now («destination_half» .entry)) (now («destination_sheet» .entry)) (nameAt (now («source_half» .entry)) (now («source_sheet» .entry)) row) (firstWord (now («destination_half» .entry)) «destination_type») (rowsWord (now («destination_half» .entry)) «destination_type»)) ⌝ }
 {
-    let first = type_word(wd, d, FIRST);
-    let rows = type_word(wd, d, ROWS);
-    let start = row_word(ws, j, NAME);
-    let len = row_word(ws, j, NAME_LENGTH);
-    match row_named(wd, td, first, rows, ts, start, len) {
-        Found::At(row) => row as u32 + 1,
+    let first = type_word(destination_half, destination_type, FIRST);
+    let rows = type_word(destination_half, destination_type, ROWS);
+    let start = row_word(source_half, row, NAME);
+    let len = row_word(source_half, row, NAME_LENGTH);
+    match row_named(
+        destination_half,
+        destination_sheet,
+        first,
+        rows,
+        source_sheet,
+        start,
+        len,
+    ) {
+        Found::At(found) => found as u32 + 1,
         Found::Missing => 0,
     }
 }
 
-// The row of the destination enum d for significant bits of the source type s, in one word.
-pub fn translated(ws: &[u32], ts: &[u8], wd: &[u32], td: &[u8], s: usize, d: usize, raw: u64) -> u32
-    requires { ⌜ SymbolsFormed (now ws) s × RowsWithin (now wd) d × (raw < 2 ^ layoutAt (now ws) s .precision) ⌝ }
-    ensures { λ r. ⌜ r ≡ translatedCode (now (ws .entry)) (now (ts .entry)) (now (wd .entry)) (now (td .entry)) s d raw ⌝ }
+// The row of the destination enum for significant bits of the source type, in one word.
+pub fn translated(
+    source_half: &[u32],
+    source_sheet: &[u8],
+    destination_half: &[u32],
+    destination_sheet: &[u8],
+    source_type: usize,
+    destination_type: usize,
+    raw: u64,
+) -> u32
+    requires { ⌜ SymbolsFormed (now «source_half») «source_type» × RowsWithin (now «destination_half») «destination_type» × (raw < 2 ^ layoutAt (now «source_half») «source_type» .precision) ⌝ }
+    ensures { λ r. ⌜ r ≡ translatedCode (now («source_half» .entry)) (now («source_sheet» .entry)) (now («destination_half» .entry)) (now («destination_sheet» .entry)) «source_type» «destination_type» raw ⌝ }
 {
-    match number_row(ws, s, raw) {
-        Found::At(j) => named_row(ws, ts, wd, td, d, j),
+    match number_row(source_half, source_type, raw) {
+        Found::At(row) => named_row(
+            source_half,
+            source_sheet,
+            destination_half,
+            destination_sheet,
+            destination_type,
+            row,
+        ),
         Found::Missing => 0,
     }
 }
 
 // Between which bits the numbers in the n rows from first on are. With no rows the end is below the lowest.
-fn ends_of(w: &[u32], first: usize, n: usize, precision: u32) -> Ends
-    requires { ⌜ (first + n ≤ 256) × (precision ≤ 32) × RowsIn (now w) precision first n 0 (2 ^ precision) ⌝ }
-    ensures { λ r. ⌜ RowsIn (now (w .entry)) precision first n (r .low) (r .end) × (r .low < 4294967296) × (r .end ≤ 2 ^ precision) ⌝ }
+fn ends_of(half: &[u32], first: usize, n: usize, precision: u32) -> Ends
+    requires { ⌜ (first + n ≤ 256) × (precision ≤ 32) × RowsIn (now half) precision first n 0 (2 ^ precision) ⌝ }
+    ensures { λ r. ⌜ RowsIn (now (half .entry)) precision first n (r .low) (r .end) × (r .low < 4294967296) × (r .end ≤ 2 ^ precision) ⌝ }
 {
     let mut low = WORD_MOST;
     let mut end: u64 = 0;
     let mut q: usize = 0;
     while q < n {
-        let bits = value_bits(w, first + q, precision);
+        let bits = value_bits(half, first + q, precision);
         low = least(low, bits);
         end = greatest(end, bits + 1);
         q += 1;
@@ -108,17 +138,22 @@ fn ends_of(w: &[u32], first: usize, n: usize, precision: u32) -> Ends
     Ends { low, end }
 }
 
-// The span of type s, where there is room for so many words.
-pub fn span_of(ws: &[u32], s: usize, room: usize) -> Span
-    requires { ⌜ SymbolsFormed (now ws) s ⌝ }
-    ensures { λ r. ⌜ SpanFound (now (ws .entry)) s room r ⌝ }
+// The span of the source type, where there is room for so many words.
+pub fn span_of(source_half: &[u32], source_type: usize, room: usize) -> Span
+    requires { ⌜ SymbolsFormed (now «source_half») «source_type» ⌝ }
+    ensures { λ r. ⌜ SpanFound (now («source_half» .entry)) «source_type» room r ⌝ }
 {
-    let l = layout_at(ws, s);
+    let l = layout_at(source_half, source_type);
     if WORD_BITS < l.precision {
         return Span::Wide;
     }
-    let first = type_word(ws, s, FIRST);
-    let e = ends_of(ws, first, symbol_rows(ws, s), l.precision);
+    let first = type_word(source_half, source_type, FIRST);
+    let e = ends_of(
+        source_half,
+        first,
+        symbol_rows(source_half, source_type),
+        l.precision,
+    );
     let low = e.low;
     let end = e.end;
     if end <= low {
@@ -130,25 +165,33 @@ pub fn span_of(ws: &[u32], s: usize, room: usize) -> Span
     Span::Of(low as u32, (end - low) as u32)
 }
 
-// The rows of the destination enum d for `count` significant bits of the source type s from `low` on, from word `base` on.
+// The rows of the destination enum for `count` significant bits of the source type from `low` on, from word `base` on.
 pub fn put_span(
     words: &mut [u32],
     base: usize,
     low: u32,
     count: u32,
-    ws: &[u32],
-    ts: &[u8],
-    wd: &[u32],
-    td: &[u8],
-    s: usize,
-    d: usize,
+    source_half: &[u32],
+    source_sheet: &[u8],
+    destination_half: &[u32],
+    destination_sheet: &[u8],
+    source_type: usize,
+    destination_type: usize,
 )
-    requires { ⌜ SymbolsFormed (now ws) s × RowsWithin (now wd) d × (low + count ≤ 2 ^ layoutAt (now ws) s .precision) × (base + count ≤ length (now words)) ⌝ }
-    ensures { λ _. ⌜ SpanPut (now (words .entry)) base low count (now (ws .entry)) (now (ts .entry)) (now (wd .entry)) (now (td .entry)) s d (now (words .exit)) ⌝ }
+    requires { ⌜ SymbolsFormed (now «source_half») «source_type» × RowsWithin (now «destination_half») «destination_type» × (low + count ≤ 2 ^ layoutAt (now «source_half») «source_type» .precision) × (base + count ≤ length (now words)) ⌝ }
+    ensures { λ _. ⌜ SpanPut (now (words .entry)) base low count (now («source_half» .entry)) (now («source_sheet» .entry)) (now («destination_half» .entry)) (now («destination_sheet» .entry)) «source_type» «destination_type» (now (words .exit)) ⌝ }
 {
     let mut q: usize = 0;
     while q < count as usize {
-        words[base + q] = translated(ws, ts, wd, td, s, d, low as u64 + q as u64);
+        words[base + q] = translated(
+            source_half,
+            source_sheet,
+            destination_half,
+            destination_sheet,
+            source_type,
+            destination_type,
+            low as u64 + q as u64,
+        );
         q += 1;
     }
 }

@@ -20,35 +20,44 @@ const SMALL: usize = 128;
 // A plan of at most 128 entries. The plan is made once, and then the records go by it.
 fn convert_small(
     x: Conversion,
-    ss: &[u8],
-    ds: &[u8],
+    source_sheet: &[u8],
+    destination_sheet: &[u8],
     out: &mut [u8],
     other: &[u8],
-    ws: &[u32],
-    wd: &[u32],
+    source_half: &[u32],
+    destination_half: &[u32],
 ) -> Answer
-    requires { ⌜ Passes (x .«in_place») (now ss) (now ds) (x .count) (length (now out)) (length (now other)) (now ws) (x .source) (now wd) (x .destination) × (x .handling ≤ 1) × (size (typeAt (now wd) (now ds) (x .destination)) ≤ 128) ⌝ }
-    ensures { λ r. ⌜ LeavesIn (x .«in_place») (x .handling) (x .count) (now (out .entry)) (now (other .entry)) (passed (typeAt (now (ws .entry)) (now (ss .entry)) (x .source)) (typeAt (now (wd .entry)) (now (ds .entry)) (x .destination))) r (now (out .exit)) ⌝ }
+    requires { ⌜ Passes (x .«in_place») (now «source_sheet») (now «destination_sheet») (x .count) (length (now out)) (length (now other)) (now «source_half») (x .source) (now «destination_half») (x .destination) × (x .handling ≤ 1) × (size (typeAt (now «destination_half») (now «destination_sheet») (x .destination)) ≤ 128) ⌝ }
+    ensures { λ r. ⌜ LeavesIn (x .«in_place») (x .handling) (x .count) (now (out .entry)) (now (other .entry)) (passed (typeAt (now («source_half» .entry)) (now («source_sheet» .entry)) (x .source)) (typeAt (now («destination_half» .entry)) (now («destination_sheet» .entry)) (x .destination))) r (now (out .exit)) ⌝ }
 {
-    let i = x.source;
-    let k = x.destination;
+    let source_type = x.source;
+    let destination_type = x.destination;
     let mut plan = [0u32; 256];
     let mut words = [0u32; 2048];
-    let n = make_plan(ss, ds, ws, i, wd, k, &mut plan, &mut words);
-    let s = type_word(ws, i, SIZE);
-    let d = type_word(wd, k, SIZE);
+    let entries = make_plan(
+        source_sheet,
+        destination_sheet,
+        source_half,
+        source_type,
+        destination_half,
+        destination_type,
+        &mut plan,
+        &mut words,
+    );
+    let source_size = type_word(source_half, source_type, SIZE);
+    let destination_size = type_word(destination_half, destination_type, SIZE);
     convert_planned(
         x.in_place,
         x.handling,
         out,
         other,
         x.count,
-        s,
-        d,
+        source_size,
+        destination_size,
         &plan,
-        n,
-        ws,
-        wd,
+        entries,
+        source_half,
+        destination_half,
         &words,
     )
 }
@@ -57,35 +66,44 @@ fn convert_small(
 // and the larger arrays with them, into every caller.
 fn convert_large(
     x: Conversion,
-    ss: &[u8],
-    ds: &[u8],
+    source_sheet: &[u8],
+    destination_sheet: &[u8],
     out: &mut [u8],
     other: &[u8],
-    ws: &[u32],
-    wd: &[u32],
+    source_half: &[u32],
+    destination_half: &[u32],
 ) -> Answer
-    requires { ⌜ Passes (x .«in_place») (now ss) (now ds) (x .count) (length (now out)) (length (now other)) (now ws) (x .source) (now wd) (x .destination) × (x .handling ≤ 1) ⌝ }
-    ensures { λ r. ⌜ LeavesIn (x .«in_place») (x .handling) (x .count) (now (out .entry)) (now (other .entry)) (passed (typeAt (now (ws .entry)) (now (ss .entry)) (x .source)) (typeAt (now (wd .entry)) (now (ds .entry)) (x .destination))) r (now (out .exit)) ⌝ }
+    requires { ⌜ Passes (x .«in_place») (now «source_sheet») (now «destination_sheet») (x .count) (length (now out)) (length (now other)) (now «source_half») (x .source) (now «destination_half») (x .destination) × (x .handling ≤ 1) ⌝ }
+    ensures { λ r. ⌜ LeavesIn (x .«in_place») (x .handling) (x .count) (now (out .entry)) (now (other .entry)) (passed (typeAt (now («source_half» .entry)) (now («source_sheet» .entry)) (x .source)) (typeAt (now («destination_half» .entry)) (now («destination_sheet» .entry)) (x .destination))) r (now (out .exit)) ⌝ }
 {
-    let i = x.source;
-    let k = x.destination;
+    let source_type = x.source;
+    let destination_type = x.destination;
     let mut plan = [0u32; 8192];
     let mut words = [0u32; 24576];
-    let n = make_plan(ss, ds, ws, i, wd, k, &mut plan, &mut words);
-    let s = type_word(ws, i, SIZE);
-    let d = type_word(wd, k, SIZE);
+    let entries = make_plan(
+        source_sheet,
+        destination_sheet,
+        source_half,
+        source_type,
+        destination_half,
+        destination_type,
+        &mut plan,
+        &mut words,
+    );
+    let source_size = type_word(source_half, source_type, SIZE);
+    let destination_size = type_word(destination_half, destination_type, SIZE);
     convert_planned(
         x.in_place,
         x.handling,
         out,
         other,
         x.count,
-        s,
-        d,
+        source_size,
+        destination_size,
         &plan,
-        n,
-        ws,
-        wd,
+        entries,
+        source_half,
+        destination_half,
         &words,
     )
 }
@@ -94,55 +112,87 @@ fn convert_large(
 pub fn copy_framed(
     handling: u32,
     count: usize,
-    source: usize,
-    destination: usize,
-    ss: &[u8],
-    ds: &[u8],
+    source_type: usize,
+    destination_type: usize,
+    source_sheet: &[u8],
+    destination_sheet: &[u8],
     out: &mut [u8],
     other: &[u8],
-    ws: &[u32],
-    wd: &[u32],
+    source_half: &[u32],
+    destination_half: &[u32],
 ) -> Answer
-    requires { ⌜ Passes false (now ss) (now ds) count (length (now out)) (length (now other)) (now ws) source (now wd) destination × (handling ≤ 1) ⌝ }
-    ensures { λ r. ⌜ LeavesIn false handling count (now (out .entry)) (now (other .entry)) (passed (typeAt (now (ws .entry)) (now (ss .entry)) source) (typeAt (now (wd .entry)) (now (ds .entry)) destination)) r (now (out .exit)) ⌝ }
+    requires { ⌜ Passes false (now «source_sheet») (now «destination_sheet») count (length (now out)) (length (now other)) (now «source_half») «source_type» (now «destination_half») «destination_type» × (handling ≤ 1) ⌝ }
+    ensures { λ r. ⌜ LeavesIn false handling count (now (out .entry)) (now (other .entry)) (passed (typeAt (now («source_half» .entry)) (now («source_sheet» .entry)) «source_type») (typeAt (now («destination_half» .entry)) (now («destination_sheet» .entry)) «destination_type»)) r (now (out .exit)) ⌝ }
 {
     let x = Conversion {
         in_place: false,
         handling,
         count,
-        source,
-        destination,
+        source: source_type,
+        destination: destination_type,
     };
-    if type_word(wd, destination, SIZE) <= SMALL {
-        return convert_small(x, ss, ds, out, other, ws, wd);
+    if type_word(destination_half, destination_type, SIZE) <= SMALL {
+        return convert_small(
+            x,
+            source_sheet,
+            destination_sheet,
+            out,
+            other,
+            source_half,
+            destination_half,
+        );
     }
-    convert_large(x, ss, ds, out, other, ws, wd)
+    convert_large(
+        x,
+        source_sheet,
+        destination_sheet,
+        out,
+        other,
+        source_half,
+        destination_half,
+    )
 }
 
 pub fn replace_framed(
     handling: u32,
     count: usize,
-    source: usize,
-    destination: usize,
-    ss: &[u8],
-    ds: &[u8],
+    source_type: usize,
+    destination_type: usize,
+    source_sheet: &[u8],
+    destination_sheet: &[u8],
     out: &mut [u8],
     other: &[u8],
-    ws: &[u32],
-    wd: &[u32],
+    source_half: &[u32],
+    destination_half: &[u32],
 ) -> Answer
-    requires { ⌜ Passes true (now ss) (now ds) count (length (now out)) (length (now other)) (now ws) source (now wd) destination × (handling ≤ 1) ⌝ }
-    ensures { λ r. ⌜ LeavesIn true handling count (now (out .entry)) (now (other .entry)) (passed (typeAt (now (ws .entry)) (now (ss .entry)) source) (typeAt (now (wd .entry)) (now (ds .entry)) destination)) r (now (out .exit)) ⌝ }
+    requires { ⌜ Passes true (now «source_sheet») (now «destination_sheet») count (length (now out)) (length (now other)) (now «source_half») «source_type» (now «destination_half») «destination_type» × (handling ≤ 1) ⌝ }
+    ensures { λ r. ⌜ LeavesIn true handling count (now (out .entry)) (now (other .entry)) (passed (typeAt (now («source_half» .entry)) (now («source_sheet» .entry)) «source_type») (typeAt (now («destination_half» .entry)) (now («destination_sheet» .entry)) «destination_type»)) r (now (out .exit)) ⌝ }
 {
     let x = Conversion {
         in_place: true,
         handling,
         count,
-        source,
-        destination,
+        source: source_type,
+        destination: destination_type,
     };
-    if type_word(wd, destination, SIZE) <= SMALL {
-        return convert_small(x, ss, ds, out, other, ws, wd);
+    if type_word(destination_half, destination_type, SIZE) <= SMALL {
+        return convert_small(
+            x,
+            source_sheet,
+            destination_sheet,
+            out,
+            other,
+            source_half,
+            destination_half,
+        );
     }
-    convert_large(x, ss, ds, out, other, ws, wd)
+    convert_large(
+        x,
+        source_sheet,
+        destination_sheet,
+        out,
+        other,
+        source_half,
+        destination_half,
+    )
 }

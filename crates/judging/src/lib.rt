@@ -32,96 +32,96 @@ use table_records::member_record;
 use table_records::value_record;
 
 // The record of the next type, where there is room for it.
-fn next_type(w: &mut [u32], n: u32, m: u32, r: [u32; 16]) -> Judged
-    requires { ⌜ Holds (now w) n m ⌝ }
-    ensures { λ j. ⌜ TypeAdded (now (w .entry)) (now (w .exit)) n m r j ⌝ }
+fn next_type(half: &mut [u32], types: u32, rows: u32, r: [u32; 16]) -> Judged
+    requires { ⌜ Holds (now half) types rows ⌝ }
+    ensures { λ j. ⌜ TypeAdded (now (half .entry)) (now (half .exit)) types rows r j ⌝ }
 {
-    if MOST_TYPES <= n {
+    if MOST_TYPES <= types {
         return Judged::Refused;
     }
-    table::store::put_type(w, n as usize, r);
-    Judged::Accepted(n + 1, m)
+    table::store::put_type(half, types as usize, r);
+    Judged::Accepted(types + 1, rows)
 }
 
 // The record of the next row, one more of the newest type, where there is room for it.
-fn next_row(w: &mut [u32], n: u32, m: u32, r: [u32; 8]) -> Judged
-    requires { ⌜ Holds (now w) n m × (0 < n) ⌝ }
-    ensures { λ j. ⌜ RowAdded (now (w .entry)) (now (w .exit)) n m r j ⌝ }
+fn next_row(half: &mut [u32], types: u32, rows: u32, r: [u32; 8]) -> Judged
+    requires { ⌜ Holds (now half) types rows × (0 < types) ⌝ }
+    ensures { λ j. ⌜ RowAdded (now (half .entry)) (now (half .exit)) types rows r j ⌝ }
 {
-    if MOST_ROWS <= m {
+    if MOST_ROWS <= rows {
         return Judged::Refused;
     }
-    let i = (n - 1) as usize;
-    table::store::add_row(w, i, m as usize, r);
-    Judged::Accepted(n, m + 1)
+    let i = (types - 1) as usize;
+    table::store::add_row(half, i, rows as usize, r);
+    Judged::Accepted(types, rows + 1)
 }
 
-pub fn judge_atomic(w: &mut [u32], t: &[u8], n: u32, m: u32, l: Layout) -> Judged
-    requires { ⌜ Holds (now w) n m ⌝ }
-    ensures { λ r. ⌜ Judges (now (w .exit)) (now (t .entry)) (judgedAfter (soFarAt (now (w .entry)) (now (t .entry)) n m) (atomicLine l)) r ⌝ }
+pub fn judge_atomic(half: &mut [u32], sheet: &[u8], types: u32, rows: u32, l: Layout) -> Judged
+    requires { ⌜ Holds (now half) types rows ⌝ }
+    ensures { λ r. ⌜ Judges (now (half .exit)) (now (sheet .entry)) (judgedAfter (soFarAt (now (half .entry)) (now (sheet .entry)) types rows) (atomicLine l)) r ⌝ }
 {
     if !layout::is_valid(l) {
         return Judged::Refused;
     }
-    next_type(w, n, m, atomic_record(l, m))
+    next_type(half, types, rows, atomic_record(l, rows))
 }
 
-// Type i is an int. A class above 4 reads as one too.
-fn is_int(w: &[u32], i: usize) -> bool
-    ensures { λ r. ⌜ r ≡ isIntAt (now (w .entry)) i ⌝ }
+// The type is an int. A class above 4 reads as one too.
+fn is_int(half: &[u32], type_number: usize) -> bool
+    ensures { λ r. ⌜ r ≡ isIntAt (now (half .entry)) «type_number» ⌝ }
 {
-    let class = type_word(w, i, CLASS);
+    let class = type_word(half, type_number, CLASS);
     if class == INT {
         return true;
     }
     ARRAY < class
 }
 
-pub fn judge_enum(w: &mut [u32], t: &[u8], n: u32, m: u32, base: u32) -> Judged
-    requires { ⌜ Holds (now w) n m ⌝ }
-    ensures { λ r. ⌜ Judges (now (w .exit)) (now (t .entry)) (judgedAfter (soFarAt (now (w .entry)) (now (t .entry)) n m) (enumLine base)) r ⌝ }
+pub fn judge_enum(half: &mut [u32], sheet: &[u8], types: u32, rows: u32, base: u32) -> Judged
+    requires { ⌜ Holds (now half) types rows ⌝ }
+    ensures { λ r. ⌜ Judges (now (half .exit)) (now (sheet .entry)) (judgedAfter (soFarAt (now (half .entry)) (now (sheet .entry)) types rows) (enumLine base)) r ⌝ }
 {
-    if n <= base {
+    if types <= base {
         return Judged::Refused;
     }
     let b = base as usize;
-    if !is_int(w, b) {
+    if !is_int(half, b) {
         return Judged::Refused;
     }
-    let l = layout_at(w, b);
-    next_type(w, n, m, enum_record(l, m))
+    let l = layout_at(half, b);
+    next_type(half, types, rows, enum_record(l, rows))
 }
 
 pub fn judge_value(
-    w: &mut [u32],
-    t: &[u8],
-    n: u32,
-    m: u32,
+    half: &mut [u32],
+    sheet: &[u8],
+    types: u32,
+    rows: u32,
     start: usize,
     len: usize,
     negative: bool,
     distance: u64,
 ) -> Judged
-    requires { ⌜ Holds (now w) n m × (start < 4294967296) × (len < 4294967296) ⌝ }
-    ensures { λ r. ⌜ Judges (now (w .exit)) (now (t .entry)) (judgedAfter (soFarAt (now (w .entry)) (now (t .entry)) n m) (valueLine (bytesAt (now (t .entry)) start len) (signedBy negative distance))) r ⌝ }
+    requires { ⌜ Holds (now half) types rows × (start < 4294967296) × (len < 4294967296) ⌝ }
+    ensures { λ r. ⌜ Judges (now (half .exit)) (now (sheet .entry)) (judgedAfter (soFarAt (now (half .entry)) (now (sheet .entry)) types rows) (valueLine (bytesAt (now (sheet .entry)) start len) (signedBy negative distance))) r ⌝ }
 {
-    if n == 0 {
+    if types == 0 {
         return Judged::Refused;
     }
-    let i = (n - 1) as usize;
-    if type_word(w, i, CLASS) != ENUM {
+    let i = (types - 1) as usize;
+    if type_word(half, i, CLASS) != ENUM {
         return Judged::Refused;
     }
-    if !may_list(w, t, i, start, len, negative, distance) {
+    if !may_list(half, sheet, i, start, len, negative, distance) {
         return Judged::Refused;
     }
     let r = value_record(start as u32, len as u32, negative, distance);
-    next_row(w, n, m, r)
+    next_row(half, types, rows, r)
 }
 
-pub fn judge_compound(w: &mut [u32], t: &[u8], n: u32, m: u32, size: u32) -> Judged
-    requires { ⌜ Holds (now w) n m ⌝ }
-    ensures { λ r. ⌜ Judges (now (w .exit)) (now (t .entry)) (judgedAfter (soFarAt (now (w .entry)) (now (t .entry)) n m) (compoundLine size)) r ⌝ }
+pub fn judge_compound(half: &mut [u32], sheet: &[u8], types: u32, rows: u32, size: u32) -> Judged
+    requires { ⌜ Holds (now half) types rows ⌝ }
+    ensures { λ r. ⌜ Judges (now (half .exit)) (now (sheet .entry)) (judgedAfter (soFarAt (now (half .entry)) (now (sheet .entry)) types rows) (compoundLine size)) r ⌝ }
 {
     if size < 1 {
         return Judged::Refused;
@@ -129,53 +129,60 @@ pub fn judge_compound(w: &mut [u32], t: &[u8], n: u32, m: u32, size: u32) -> Jud
     if MOST_BYTES < size {
         return Judged::Refused;
     }
-    next_type(w, n, m, compound_record(size, m))
+    next_type(half, types, rows, compound_record(size, rows))
 }
 
 pub fn judge_member(
-    w: &mut [u32],
-    t: &[u8],
-    n: u32,
-    m: u32,
+    half: &mut [u32],
+    sheet: &[u8],
+    types: u32,
+    rows: u32,
     start: usize,
     len: usize,
     offset: u32,
     kind: u32,
 ) -> Judged
-    requires { ⌜ Holds (now w) n m × (start < 4294967296) × (len < 4294967296) ⌝ }
-    ensures { λ r. ⌜ Judges (now (w .exit)) (now (t .entry)) (judgedAfter (soFarAt (now (w .entry)) (now (t .entry)) n m) (memberLine (bytesAt (now (t .entry)) start len) offset kind)) r ⌝ }
+    requires { ⌜ Holds (now half) types rows × (start < 4294967296) × (len < 4294967296) ⌝ }
+    ensures { λ r. ⌜ Judges (now (half .exit)) (now (sheet .entry)) (judgedAfter (soFarAt (now (half .entry)) (now (sheet .entry)) types rows) (memberLine (bytesAt (now (sheet .entry)) start len) offset kind)) r ⌝ }
 {
-    if n == 0 {
+    if types == 0 {
         return Judged::Refused;
     }
-    if n - 1 <= kind {
+    if types - 1 <= kind {
         return Judged::Refused;
     }
-    let i = (n - 1) as usize;
-    if type_word(w, i, CLASS) != COMPOUND {
+    let i = (types - 1) as usize;
+    if type_word(half, i, CLASS) != COMPOUND {
         return Judged::Refused;
     }
-    let width = type_word(w, kind as usize, SIZE);
-    if !may_place(w, t, i, start, len, offset as usize, width) {
+    let width = type_word(half, kind as usize, SIZE);
+    if !may_place(half, sheet, i, start, len, offset as usize, width) {
         return Judged::Refused;
     }
     let r = member_record(start as u32, len as u32, offset, kind);
-    next_row(w, n, m, r)
+    next_row(half, types, rows, r)
 }
 
-pub fn judge_array(w: &mut [u32], t: &[u8], n: u32, m: u32, base: u32, dims: [u32; 4]) -> Judged
-    requires { ⌜ Holds (now w) n m ⌝ }
-    ensures { λ r. ⌜ Judges (now (w .exit)) (now (t .entry)) (judgedAfter (soFarAt (now (w .entry)) (now (t .entry)) n m) (arrayLine base (upToZero dims))) r ⌝ }
+pub fn judge_array(
+    half: &mut [u32],
+    sheet: &[u8],
+    types: u32,
+    rows: u32,
+    base: u32,
+    dims: [u32; 4],
+) -> Judged
+    requires { ⌜ Holds (now half) types rows ⌝ }
+    ensures { λ r. ⌜ Judges (now (half .exit)) (now (sheet .entry)) (judgedAfter (soFarAt (now (half .entry)) (now (sheet .entry)) types rows) (arrayLine base (upToZero dims))) r ⌝ }
 {
-    if n <= base {
+    if types <= base {
         return Judged::Refused;
     }
     if dims[0] == 0 {
         return Judged::Refused;
     }
-    let size = type_word(w, base as usize, SIZE);
+    let size = type_word(half, base as usize, SIZE);
     match total(dims, size) {
-        Total::Bytes(z) => next_type(w, n, m, array_record(z, base, m, dims)),
+        Total::Bytes(z) => next_type(half, types, rows, array_record(z, base, rows, dims)),
         Total::TooMany => Judged::Refused,
     }
 }

@@ -40,7 +40,7 @@ pub fn set_size(layout: &mut [u32; 8], size: u32) -> u32
     ensures { λ r. ⌜ record { number = r; words = now (layout .exit) } ≡ setterCall true (ofSize size) (now (layout .entry)) ⌝ }
 {
     let w = *layout;
-    let e = layout_setters::set_size(layout_of(w), ByteAt(size as usize));
+    let e = place_setters::set_size(layout_of(w), ByteAt(size as usize));
     put(is_coded(w), e, layout)
 }
 
@@ -48,7 +48,7 @@ pub fn set_order(layout: &mut [u32; 8], order: u32) -> u32
     ensures { λ r. ⌜ record { number = r; words = now (layout .exit) } ≡ setterCall (leb order 1) (ofOrder (orderOf order)) (now (layout .entry)) ⌝ }
 {
     let w = *layout;
-    let e = layout_setters::set_order(layout_of(w), order_of(order));
+    let e = style_setters::set_order(layout_of(w), order_of(order));
     put(both(order <= BE, is_coded(w)), e, layout)
 }
 
@@ -56,7 +56,7 @@ pub fn set_precision(layout: &mut [u32; 8], precision: u32) -> u32
     ensures { λ r. ⌜ record { number = r; words = now (layout .exit) } ≡ setterCall true (ofPrecision precision) (now (layout .entry)) ⌝ }
 {
     let w = *layout;
-    let e = layout_setters::set_precision(layout_of(w), precision);
+    let e = place_setters::set_precision(layout_of(w), precision);
     put(is_coded(w), e, layout)
 }
 
@@ -64,7 +64,7 @@ pub fn set_offset(layout: &mut [u32; 8], offset: u32) -> u32
     ensures { λ r. ⌜ record { number = r; words = now (layout .exit) } ≡ setterCall true (ofOffset offset) (now (layout .entry)) ⌝ }
 {
     let w = *layout;
-    let e = layout_setters::set_offset(layout_of(w), BitAt(offset));
+    let e = place_setters::set_offset(layout_of(w), BitAt(offset));
     put(is_coded(w), e, layout)
 }
 
@@ -72,7 +72,7 @@ pub fn set_pads(layout: &mut [u32; 8], lsb: u32, msb: u32) -> u32
     ensures { λ r. ⌜ record { number = r; words = now (layout .exit) } ≡ setterCall (leb lsb 2 && leb msb 2) (ofPads (padOf lsb) (padOf msb)) (now (layout .entry)) ⌝ }
 {
     let w = *layout;
-    let e = layout_setters::set_pads(layout_of(w), pad_of(lsb), pad_of(msb));
+    let e = style_setters::set_pads(layout_of(w), pad_of(lsb), pad_of(msb));
     put(both(both(lsb <= KEEP, msb <= KEEP), is_coded(w)), e, layout)
 }
 
@@ -81,6 +81,6 @@ pub fn set_sign(layout: &mut [u32; 8], sign: u32) -> u32
     ensures { λ r. ⌜ record { number = r; words = now (layout .exit) } ≡ setterCall (leb sign 1) (ofSign (signOf sign)) (now (layout .entry)) ⌝ }
 {
     let w = *layout;
-    let e = layout_setters::set_sign(layout_of(w), sign == SIGNED);
+    let e = style_setters::set_sign(layout_of(w), sign == SIGNED);
     put(both(sign <= SIGNED, is_coded(w)), e, layout)
 }

@@ -2,16 +2,16 @@
 ghost use mathlib.Core.Path.{_≡_};
 ghost use Rattle.text.specs.Place.{fieldAt};
 ghost use Rattle.line.specs.Read.{Reads, lineReading, kindReading, laterKind};
+use array_lines::array_line;
+use atomic_lines::bits_line;
+use atomic_lines::int_line;
 use line::Line;
 use line::ReadLine;
 use line::plain;
-use line_kinds::array::array_line;
-use line_kinds::atomic::bits_line;
-use line_kinds::atomic::int_line;
-use line_kinds::kind::comp_line;
-use line_kinds::kind::enum_line;
-use line_kinds::kind::member_line;
-use line_kinds::kind::value_line;
+use row_lines::comp_line;
+use row_lines::enum_line;
+use row_lines::member_line;
+use row_lines::value_line;
 use text::field_end;
 use text::word_at;
 

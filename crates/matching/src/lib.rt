@@ -32,83 +32,139 @@ use table::SIZE;
 use table::read::row_word;
 use table::read::type_word;
 
-// From the destination's row j, at byte b of its compound, into the source compound s.
-fn match_named(ws: &[u32], ts: &[u8], s: usize, wd: &[u32], td: &[u8], j: usize, b: usize) -> Walk
-    requires { ⌜ (kindAt (now ws) s ≡ 3) × (covers (now wd) j b ≡ true) ⌝ }
-    ensures { λ r. ⌜ LeadsIn (now (ws .entry)) (now (ts .entry)) s (now (wd .entry)) (now (td .entry)) j b r ⌝ }
-{
-    match row_of_name(ws, ts, s, wd, td, j) {
-        Found::At(m) => {
-            let from = row_word(ws, m, MEMBER_OFFSET);
-            let k = row_word(ws, m, MEMBER_TYPE);
-            let l = row_word(wd, j, MEMBER_TYPE);
-            let offset = row_word(wd, j, MEMBER_OFFSET);
-            Walk::On(from, k, l, minus(b, offset))
-        }
-        Found::Missing => Walk::Off(row_end(wd, j)),
-    }
-}
-
-// Between the compounds s and d.
-fn match_compound(
-    ws: &[u32],
-    ts: &[u8],
-    s: usize,
-    wd: &[u32],
-    td: &[u8],
-    d: usize,
-    b: usize,
+// From the destination's row, at a byte of its compound, into the source compound.
+fn match_named(
+    source_half: &[u32],
+    source_sheet: &[u8],
+    source_type: usize,
+    destination_half: &[u32],
+    destination_sheet: &[u8],
+    row: usize,
+    destination_byte: usize,
 ) -> Walk
-    requires { ⌜ (kindAt (now ws) s ≡ 3) × (kindAt (now wd) d ≡ 3) × (b < sizeWord (now wd) d) ⌝ }
-    ensures { λ r. ⌜ Leads (now (ws .entry)) (now (ts .entry)) s (now (wd .entry)) (now (td .entry)) d b r ⌝ }
+    requires { ⌜ (kindAt (now «source_half») «source_type» ≡ 3) × (covers (now «destination_half») row «destination_byte» ≡ true) ⌝ }
+    ensures { λ r. ⌜ LeadsIn (now («source_half» .entry)) (now («source_sheet» .entry)) «source_type» (now («destination_half» .entry)) (now («destination_sheet» .entry)) row «destination_byte» r ⌝ }
 {
-    let first = type_word(wd, d, FIRST);
-    let n = type_word(wd, d, ROWS);
-    match row_over(wd, first, n, b) {
-        Found::At(j) => match_named(ws, ts, s, wd, td, j, b),
+    match row_of_name(
+        source_half,
+        source_sheet,
+        source_type,
+        destination_half,
+        destination_sheet,
+        row,
+    ) {
+        Found::At(m) => {
+            let from = row_word(source_half, m, MEMBER_OFFSET);
+            let k = row_word(source_half, m, MEMBER_TYPE);
+            let l = row_word(destination_half, row, MEMBER_TYPE);
+            let offset = row_word(destination_half, row, MEMBER_OFFSET);
+            Walk::On(from, k, l, minus(destination_byte, offset))
+        }
+        Found::Missing => Walk::Off(row_end(destination_half, row)),
+    }
+}
+
+// Between two compounds.
+fn match_compound(
+    source_half: &[u32],
+    source_sheet: &[u8],
+    source_type: usize,
+    destination_half: &[u32],
+    destination_sheet: &[u8],
+    destination_type: usize,
+    destination_byte: usize,
+) -> Walk
+    requires { ⌜ (kindAt (now «source_half») «source_type» ≡ 3) × (kindAt (now «destination_half») «destination_type» ≡ 3) × («destination_byte» < sizeWord (now «destination_half») «destination_type») ⌝ }
+    ensures { λ r. ⌜ Leads (now («source_half» .entry)) (now («source_sheet» .entry)) «source_type» (now («destination_half» .entry)) (now («destination_sheet» .entry)) «destination_type» «destination_byte» r ⌝ }
+{
+    let first = type_word(destination_half, destination_type, FIRST);
+    let n = type_word(destination_half, destination_type, ROWS);
+    match row_over(destination_half, first, n, destination_byte) {
+        Found::At(j) => match_named(
+            source_half,
+            source_sheet,
+            source_type,
+            destination_half,
+            destination_sheet,
+            j,
+            destination_byte,
+        ),
         Found::Missing => {
-            let z = type_word(wd, d, SIZE);
-            Walk::Off(gap_end(wd, first, n, b, z))
+            let z = type_word(destination_half, destination_type, SIZE);
+            Walk::Off(gap_end(destination_half, first, n, destination_byte, z))
         }
     }
 }
 
-// Between the arrays s and d.
-fn match_array(ws: &[u32], s: usize, wd: &[u32], d: usize, b: usize) -> Walk
-    requires { ⌜ (kindAt (now ws) s ≡ 4) × (kindAt (now wd) d ≡ 4) × (b < sizeWord (now wd) d) ⌝ }
-    ensures { λ r. ⌜ ((ts td : List ℕ) → Leads (now (ws .entry)) ts s (now (wd .entry)) td d b r) ⌝ }
+// Between two arrays.
+fn match_array(
+    source_half: &[u32],
+    source_type: usize,
+    destination_half: &[u32],
+    destination_type: usize,
+    destination_byte: usize,
+) -> Walk
+    requires { ⌜ (kindAt (now «source_half») «source_type» ≡ 4) × (kindAt (now «destination_half») «destination_type» ≡ 4) × («destination_byte» < sizeWord (now «destination_half») «destination_type») ⌝ }
+    ensures { λ r. ⌜ ((ts td : List ℕ) → Leads (now («source_half» .entry)) ts «source_type» (now («destination_half» .entry)) td «destination_type» «destination_byte» r) ⌝ }
 {
-    let z = type_word(wd, d, SIZE);
-    if count_at(ws, s) != count_at(wd, d) {
+    let z = type_word(destination_half, destination_type, SIZE);
+    if count_at(source_half, source_type) != count_at(destination_half, destination_type) {
         return Walk::Off(z);
     }
-    let l = type_word(wd, d, BASE);
-    let y = type_word(wd, l, SIZE);
-    let k = type_word(ws, s, BASE);
-    let x = type_word(ws, k, SIZE);
-    Walk::On(quotient(b, y) * x, k, l, remainder(b, y))
+    let l = type_word(destination_half, destination_type, BASE);
+    let y = type_word(destination_half, l, SIZE);
+    let k = type_word(source_half, source_type, BASE);
+    let x = type_word(source_half, k, SIZE);
+    Walk::On(
+        quotient(destination_byte, y) * x,
+        k,
+        l,
+        remainder(destination_byte, y),
+    )
 }
 
-fn match_step(ws: &[u32], ts: &[u8], s: usize, wd: &[u32], td: &[u8], d: usize, b: usize) -> Walk
-    requires { ⌜ b < sizeWord (now wd) d ⌝ }
-    ensures { λ r. ⌜ Leads (now (ws .entry)) (now (ts .entry)) s (now (wd .entry)) (now (td .entry)) d b r ⌝ }
+fn match_step(
+    source_half: &[u32],
+    source_sheet: &[u8],
+    source_type: usize,
+    destination_half: &[u32],
+    destination_sheet: &[u8],
+    destination_type: usize,
+    destination_byte: usize,
+) -> Walk
+    requires { ⌜ «destination_byte» < sizeWord (now «destination_half») «destination_type» ⌝ }
+    ensures { λ r. ⌜ Leads (now («source_half» .entry)) (now («source_sheet» .entry)) «source_type» (now («destination_half» .entry)) (now («destination_sheet» .entry)) «destination_type» «destination_byte» r ⌝ }
 {
-    let from = kind_at(ws, s);
-    let to = kind_at(wd, d);
-    let z = type_word(wd, d, SIZE);
+    let from = kind_at(source_half, source_type);
+    let to = kind_at(destination_half, destination_type);
+    let z = type_word(destination_half, destination_type, SIZE);
     if to == COMPOUND {
         if from == COMPOUND {
-            match_compound(ws, ts, s, wd, td, d, b)
+            match_compound(
+                source_half,
+                source_sheet,
+                source_type,
+                destination_half,
+                destination_sheet,
+                destination_type,
+                destination_byte,
+            )
         } else {
             Walk::Off(z)
         }
     } else if to == ARRAY {
         if from == ARRAY {
-            match_array(ws, s, wd, d, b)
+            match_array(
+                source_half,
+                source_type,
+                destination_half,
+                destination_type,
+                destination_byte,
+            )
         } else {
             Walk::Off(z)
         }
-    } else if b != 0 {
+    } else if destination_byte != 0 {
         Walk::Off(z)
     } else if COMPOUND <= from {
         Walk::Off(z)
@@ -117,18 +173,34 @@ fn match_step(ws: &[u32], ts: &[u8], s: usize, wd: &[u32], td: &[u8], d: usize, 
     }
 }
 
-// The match of the leaf that starts at byte b of the destination type k, in the source type i.
-pub fn match_at(ws: &[u32], ts: &[u8], i: usize, wd: &[u32], td: &[u8], k: usize, b: usize) -> Pair
-    requires { ⌜ WellFormed (typeAt (now ws) (now ts) i) × WellFormed (typeAt (now wd) (now td) k) × (b < size (typeAt (now wd) (now td) k)) ⌝ }
-    ensures { λ r. ⌜ MatchFound (now (ws .entry)) (now (ts .entry)) i (now (wd .entry)) (now (td .entry)) k b r ⌝ }
+// The match of the leaf that starts at this byte of the destination type, in the source type.
+pub fn match_at(
+    source_half: &[u32],
+    source_sheet: &[u8],
+    source_type: usize,
+    destination_half: &[u32],
+    destination_sheet: &[u8],
+    destination_type: usize,
+    destination_byte: usize,
+) -> Pair
+    requires { ⌜ WellFormed (typeAt (now «source_half») (now «source_sheet») «source_type») × WellFormed (typeAt (now «destination_half») (now «destination_sheet») «destination_type») × («destination_byte» < size (typeAt (now «destination_half») (now «destination_sheet») «destination_type»)) ⌝ }
+    ensures { λ r. ⌜ MatchFound (now («source_half» .entry)) (now («source_sheet» .entry)) «source_type» (now («destination_half» .entry)) (now («destination_sheet» .entry)) «destination_type» «destination_byte» r ⌝ }
 {
-    let mut s = i;
-    let mut d = k;
-    let mut at = b;
+    let mut s = source_type;
+    let mut d = destination_type;
+    let mut at = destination_byte;
     let mut from: usize = 0;
     let mut left: usize = MOST_TYPES;
     while 0 < left {
-        match match_step(ws, ts, s, wd, td, d, at) {
+        match match_step(
+            source_half,
+            source_sheet,
+            s,
+            destination_half,
+            destination_sheet,
+            d,
+            at,
+        ) {
             Walk::On(further, source, destination, byte) => {
                 from += further;
                 s = source;

@@ -48,12 +48,12 @@ pub fn same_name(a: &[u8], i: usize, n: usize, b: &[u8], j: usize, m: usize) -> 
     }
 }
 
-// The len bytes of x from start on are the name of row j.
-pub fn has_name(w: &[u32], t: &[u8], j: usize, x: &[u8], start: usize, len: usize) -> bool
+// The len bytes of x from start on are the row's name.
+pub fn has_name(half: &[u32], sheet: &[u8], row: usize, x: &[u8], start: usize, len: usize) -> bool
     requires { ⌜ (start < 4294967296) × (len < 4294967296) ⌝ }
-    ensures { λ r. ⌜ r ≡ same (bytesAt (now (x .entry)) start len) (nameAt (now (w .entry)) (now (t .entry)) j) ⌝ }
+    ensures { λ r. ⌜ r ≡ same (bytesAt (now (x .entry)) start len) (nameAt (now (half .entry)) (now (sheet .entry)) row) ⌝ }
 {
-    let s = row_word(w, j, NAME);
-    let n = row_word(w, j, NAME_LENGTH);
-    same_name(x, start, len, t, s, n)
+    let s = row_word(half, row, NAME);
+    let n = row_word(half, row, NAME_LENGTH);
+    same_name(x, start, len, sheet, s, n)
 }

@@ -37,61 +37,76 @@ fn larger(a: usize, b: usize) -> usize
 }
 
 // So many of a half's rows that those of every type are among them.
-fn rows_in(w: &[u32]) -> usize
-    ensures { λ r. ⌜ (r ≤ 256) × ((i j : ℕ) → j < 256 → j < firstWord (now (w .entry)) i + rowsWord (now (w .entry)) i → j < r) ⌝ }
+fn rows_in(half: &[u32]) -> usize
+    ensures { λ r. ⌜ (r ≤ 256) × ((i j : ℕ) → j < 256 → j < firstWord (now (half .entry)) i + rowsWord (now (half .entry)) i → j < r) ⌝ }
 {
     let mut rows: usize = 0;
     let mut i: usize = 0;
     while i < MOST_TYPES {
-        let end = type_word(w, i, FIRST) + type_word(w, i, ROWS);
+        let end = type_word(half, i, FIRST) + type_word(half, i, ROWS);
         rows = larger(rows, end);
         i += 1;
     }
     rows
 }
 
-// The id of the name of row j of w: of the first rows of wd the newest that has it, in one word.
-fn name_id(w: &[u32], t: &[u8], j: usize, wd: &[u32], td: &[u8], rows: usize) -> u32
+// The id of the name of a row of either half: of the first rows of the destination's half the newest that has it, in one word.
+fn name_id(
+    half: &[u32],
+    sheet: &[u8],
+    row: usize,
+    destination_half: &[u32],
+    destination_sheet: &[u8],
+    rows: usize,
+) -> u32
     requires { ⌜ rows ≤ 256 ⌝ }
-    ensures { λ r. ⌜ r ≡ rowCode (rowNamed (now (wd .entry)) (now (td .entry)) (nameAt (now (w .entry)) (now (t .entry)) j) 0 rows) ⌝ }
+    ensures { λ r. ⌜ r ≡ rowCode (rowNamed (now («destination_half» .entry)) (now («destination_sheet» .entry)) (nameAt (now (half .entry)) (now (sheet .entry)) row) 0 rows) ⌝ }
 {
-    let start = row_word(w, j, NAME);
-    let len = row_word(w, j, NAME_LENGTH);
-    match row_named(wd, td, 0, rows, t, start, len) {
-        Found::At(row) => row as u32 + 1,
+    let start = row_word(half, row, NAME);
+    let len = row_word(half, row, NAME_LENGTH);
+    match row_named(
+        destination_half,
+        destination_sheet,
+        0,
+        rows,
+        sheet,
+        start,
+        len,
+    ) {
+        Found::At(found) => found as u32 + 1,
         Found::Missing => 0,
     }
 }
 
-// The ids of the names of the first n rows of w, from word k on.
+// The ids of the names of the first n rows of a half, from word `place` on.
 fn put_ids(
     words: &mut [u32],
-    k: usize,
-    w: &[u32],
-    t: &[u8],
+    place: usize,
+    half: &[u32],
+    sheet: &[u8],
     n: usize,
-    wd: &[u32],
-    td: &[u8],
+    destination_half: &[u32],
+    destination_sheet: &[u8],
     rows: usize,
 )
-    requires { ⌜ (rows ≤ 256) × (k + n ≤ length (now words)) ⌝ }
-    ensures { λ _. ⌜ IdsPut (now (words .entry)) k (now (w .entry)) (now (t .entry)) n (now (wd .entry)) (now (td .entry)) rows (now (words .exit)) ⌝ }
+    requires { ⌜ (rows ≤ 256) × (place + n ≤ length (now words)) ⌝ }
+    ensures { λ _. ⌜ IdsPut (now (words .entry)) place (now (half .entry)) (now (sheet .entry)) n (now («destination_half» .entry)) (now («destination_sheet» .entry)) rows (now (words .exit)) ⌝ }
 {
     let mut j: usize = 0;
     while j < n {
-        let at = k + j;
-        words[at] = name_id(w, t, j, wd, td, rows);
+        let at = place + j;
+        words[at] = name_id(half, sheet, j, destination_half, destination_sheet, rows);
         j += 1;
     }
 }
 
-// Whether the rows of no one of n entries are looked through.
-fn none_looked_up(words: &[u32], n: usize) -> bool
-    requires { ⌜ n ≤ 4096 ⌝ }
-    ensures { λ r. ⌜ (r ≡ true → (i : ℕ) → i < n → routeIn (getD (now (words .entry)) (wordsPlace i) 0) < 6) ⌝ }
+// Whether the rows of no one of the entries are looked through.
+fn none_looked_up(words: &[u32], entries: usize) -> bool
+    requires { ⌜ entries ≤ 4096 ⌝ }
+    ensures { λ r. ⌜ (r ≡ true → (i : ℕ) → i < entries → routeIn (getD (now (words .entry)) (wordsPlace i) 0) < 6) ⌝ }
 {
     let mut i: usize = 0;
-    while i < n {
+    while i < entries {
         let route = route_in(word(words, NAMES + ENTRY_WORDS * i));
         if LOOKED_UP <= route {
             return false;
@@ -101,15 +116,40 @@ fn none_looked_up(words: &[u32], n: usize) -> bool
     true
 }
 
-// The ids of all names, where one of n entries wants them.
-pub fn put_names(n: usize, ws: &[u32], ts: &[u8], wd: &[u32], td: &[u8], words: &mut [u32])
-    requires { ⌜ (n ≤ 4096) × (wordsPlace n ≤ length (now words)) ⌝ }
-    ensures { λ _. ⌜ NamesPut (now (words .entry)) n (now (ws .entry)) (now (ts .entry)) (now (wd .entry)) (now (td .entry)) (now (words .exit)) ⌝ }
+// The ids of all names, where one of the entries wants them.
+pub fn put_names(
+    entries: usize,
+    source_half: &[u32],
+    source_sheet: &[u8],
+    destination_half: &[u32],
+    destination_sheet: &[u8],
+    words: &mut [u32],
+)
+    requires { ⌜ (entries ≤ 4096) × (wordsPlace entries ≤ length (now words)) ⌝ }
+    ensures { λ _. ⌜ NamesPut (now (words .entry)) entries (now («source_half» .entry)) (now («source_sheet» .entry)) (now («destination_half» .entry)) (now («destination_sheet» .entry)) (now (words .exit)) ⌝ }
 {
-    if none_looked_up(words, n) {
+    if none_looked_up(words, entries) {
         return;
     }
-    let rows = rows_in(wd);
-    put_ids(words, 0, ws, ts, rows_in(ws), wd, td, rows);
-    put_ids(words, MOST_ROWS, wd, td, rows, wd, td, rows);
+    let rows = rows_in(destination_half);
+    put_ids(
+        words,
+        0,
+        source_half,
+        source_sheet,
+        rows_in(source_half),
+        destination_half,
+        destination_sheet,
+        rows,
+    );
+    put_ids(
+        words,
+        MOST_ROWS,
+        destination_half,
+        destination_sheet,
+        rows,
+        destination_half,
+        destination_sheet,
+        rows,
+    );
 }

@@ -15,11 +15,11 @@ use entry_code::GENERAL;
 use entry_code::SPAN;
 use entry_code::SPAN_LE;
 use entry_code::route_in;
-use one_leaf::convert_enum;
-use one_leaf::convert_enum_fast;
-use one_leaf::convert_number;
-use one_leaf::enum_kind;
-use one_leaf::number_kind;
+use enum_leaf::convert_enum;
+use enum_leaf::convert_enum_fast;
+use enum_leaf::enum_kind;
+use number_leaf::convert_number;
+use number_leaf::number_kind;
 use plan_words::entry;
 use plans::ENTRY_WORDS;
 use plans::NAMES;
@@ -40,21 +40,30 @@ fn write_number(
     dst: &mut [u8],
     e: PlanEntry,
     i: usize,
-    ws: &[u32],
-    wd: &[u32],
+    source_half: &[u32],
+    destination_half: &[u32],
     words: &[u32],
 ) -> u32
-    requires { ⌜ EntryReady (length (now src)) (length (now dst)) e i (now ws) (now wd) (now words) × (i < 4096) × (routeIn (getD (now words) (wordsPlace i) 0) < 3) ⌝ }
-    ensures { λ r. ⌜ ((p : Pair (e .source) (e .destination) (now (ws .entry)) (now (wd .entry)) (now (words .entry)) (wordsPlace i)) → (r ≡ pairBecomes p (e .from) (now (src .entry)) .kind) × (now (dst .exit) ≡ stored (layoutAt (now (wd .entry)) (e .destination)) (e .to) (pairBecomes p (e .from) (now (src .entry)) .raw) (now (dst .entry)))) ⌝ }
+    requires { ⌜ EntryReady (length (now src)) (length (now dst)) e i (now «source_half») (now «destination_half») (now words) × (i < 4096) × (routeIn (getD (now words) (wordsPlace i) 0) < 3) ⌝ }
+    ensures { λ r. ⌜ ((p : Pair (e .source) (e .destination) (now («source_half» .entry)) (now («destination_half» .entry)) (now (words .entry)) (wordsPlace i)) → (r ≡ pairBecomes p (e .from) (now (src .entry)) .kind) × (now (dst .exit) ≡ stored (layoutAt (now («destination_half» .entry)) (e .destination)) (e .to) (pairBecomes p (e .from) (now (src .entry)) .raw) (now (dst .entry)))) ⌝ }
 {
-    let k = words_of(i);
-    if route_in(at(words, k)) != GENERAL {
+    let place = words_of(i);
+    if route_in(at(words, place)) != GENERAL {
         if 8 <= src.len() - e.from {
-            convert_easy(src, dst, e.to, e.from, words, k);
+            convert_easy(src, dst, e.to, e.from, words, place);
             return 0;
         }
     }
-    convert_number(src, dst, e.to, e.from, e.source, e.destination, ws, wd)
+    convert_number(
+        src,
+        dst,
+        e.to,
+        e.from,
+        e.source,
+        e.destination,
+        source_half,
+        destination_half,
+    )
 }
 
 // The same of an enum: by its packed word where that says all and eight bytes can be read.
@@ -63,17 +72,17 @@ fn write_enum(
     dst: &mut [u8],
     e: PlanEntry,
     i: usize,
-    ws: &[u32],
-    wd: &[u32],
+    source_half: &[u32],
+    destination_half: &[u32],
     words: &[u32],
 ) -> u32
-    requires { ⌜ EntryReady (length (now src)) (length (now dst)) e i (now ws) (now wd) (now words) × (i < 4096) × (3 ≤ routeIn (getD (now words) (wordsPlace i) 0)) ⌝ }
-    ensures { λ r. ⌜ ((p : Pair (e .source) (e .destination) (now (ws .entry)) (now (wd .entry)) (now (words .entry)) (wordsPlace i)) → (r ≡ pairBecomes p (e .from) (now (src .entry)) .kind) × (now (dst .exit) ≡ stored (layoutAt (now (wd .entry)) (e .destination)) (e .to) (pairBecomes p (e .from) (now (src .entry)) .raw) (now (dst .entry)))) ⌝ }
+    requires { ⌜ EntryReady (length (now src)) (length (now dst)) e i (now «source_half») (now «destination_half») (now words) × (i < 4096) × (3 ≤ routeIn (getD (now words) (wordsPlace i) 0)) ⌝ }
+    ensures { λ r. ⌜ ((p : Pair (e .source) (e .destination) (now («source_half» .entry)) (now («destination_half» .entry)) (now (words .entry)) (wordsPlace i)) → (r ≡ pairBecomes p (e .from) (now (src .entry)) .kind) × (now (dst .exit) ≡ stored (layoutAt (now («destination_half» .entry)) (e .destination)) (e .to) (pairBecomes p (e .from) (now (src .entry)) .raw) (now (dst .entry)))) ⌝ }
 {
-    let k = words_of(i);
-    if route_in(at(words, k)) < SPAN {
+    let place = words_of(i);
+    if route_in(at(words, place)) < SPAN {
         if 8 <= src.len() - e.from {
-            return convert_enum_fast(src, dst, e.to, e.from, wd, words, k);
+            return convert_enum_fast(src, dst, e.to, e.from, destination_half, words, place);
         }
     }
     convert_enum(
@@ -83,10 +92,10 @@ fn write_enum(
         e.from,
         e.source,
         e.destination,
-        ws,
-        wd,
+        source_half,
+        destination_half,
         words,
-        k,
+        place,
     )
 }
 
@@ -96,33 +105,56 @@ fn write_entry(
     dst: &mut [u8],
     e: PlanEntry,
     i: usize,
-    ws: &[u32],
-    wd: &[u32],
+    source_half: &[u32],
+    destination_half: &[u32],
     words: &[u32],
 ) -> u32
-    requires { ⌜ EntryReady (length (now src)) (length (now dst)) e i (now ws) (now wd) (now words) ⌝ }
-    ensures { λ r. ⌜ ((p : Pair (e .source) (e .destination) (now (ws .entry)) (now (wd .entry)) (now (words .entry)) (wordsPlace i)) → (r ≡ pairBecomes p (e .from) (now (src .entry)) .kind) × (now (dst .exit) ≡ stored (layoutAt (now (wd .entry)) (e .destination)) (e .to) (pairBecomes p (e .from) (now (src .entry)) .raw) (now (dst .entry)))) ⌝ }
+    requires { ⌜ EntryReady (length (now src)) (length (now dst)) e i (now «source_half») (now «destination_half») (now words) ⌝ }
+    ensures { λ r. ⌜ ((p : Pair (e .source) (e .destination) (now («source_half» .entry)) (now («destination_half» .entry)) (now (words .entry)) (wordsPlace i)) → (r ≡ pairBecomes p (e .from) (now (src .entry)) .kind) × (now (dst .exit) ≡ stored (layoutAt (now («destination_half» .entry)) (e .destination)) (e .to) (pairBecomes p (e .from) (now (src .entry)) .raw) (now (dst .entry)))) ⌝ }
 {
     if route_in(at(words, words_of(i))) < SPAN_LE {
-        return write_number(src, dst, e, i, ws, wd, words);
+        return write_number(src, dst, e, i, source_half, destination_half, words);
     }
-    write_enum(src, dst, e, i, ws, wd, words)
+    write_enum(src, dst, e, i, source_half, destination_half, words)
 }
 
 // The kind of exception that the leaf of entry i raises: an easy one raises none.
-fn entry_kind(src: &[u8], e: PlanEntry, i: usize, ws: &[u32], wd: &[u32], words: &[u32]) -> u32
-    requires { ⌜ ((d : ℕ) × EntryReady (length (now src)) d e i (now ws) (now wd) (now words)) ⌝ }
-    ensures { λ r. ⌜ ((p : Pair (e .source) (e .destination) (now (ws .entry)) (now (wd .entry)) (now (words .entry)) (wordsPlace i)) → r ≡ pairBecomes p (e .from) (now (src .entry)) .kind) ⌝ }
+fn entry_kind(
+    src: &[u8],
+    e: PlanEntry,
+    i: usize,
+    source_half: &[u32],
+    destination_half: &[u32],
+    words: &[u32],
+) -> u32
+    requires { ⌜ ((d : ℕ) × EntryReady (length (now src)) d e i (now «source_half») (now «destination_half») (now words)) ⌝ }
+    ensures { λ r. ⌜ ((p : Pair (e .source) (e .destination) (now («source_half» .entry)) (now («destination_half» .entry)) (now (words .entry)) (wordsPlace i)) → r ≡ pairBecomes p (e .from) (now (src .entry)) .kind) ⌝ }
 {
-    let k = words_of(i);
-    let route = route_in(at(words, k));
+    let place = words_of(i);
+    let route = route_in(at(words, place));
     if SPAN_LE <= route {
-        return enum_kind(src, e.from, e.source, e.destination, ws, wd, words, k);
+        return enum_kind(
+            src,
+            e.from,
+            e.source,
+            e.destination,
+            source_half,
+            destination_half,
+            words,
+            place,
+        );
     }
     if route != GENERAL {
         return 0;
     }
-    number_kind(src, e.from, e.source, e.destination, ws, wd)
+    number_kind(
+        src,
+        e.from,
+        e.source,
+        e.destination,
+        source_half,
+        destination_half,
+    )
 }
 
 // 1 where an exception was raised.
@@ -137,19 +169,19 @@ pub fn write_record(
     src: &[u8],
     dst: &mut [u8],
     plan: &[u32],
-    n: usize,
-    ws: &[u32],
-    wd: &[u32],
+    entries: usize,
+    source_half: &[u32],
+    destination_half: &[u32],
     words: &[u32],
 ) -> u64
-    requires { ⌜ Ready (length (now src)) (length (now dst)) (now plan) n (now ws) (now wd) (now words) ⌝ }
-    ensures { λ r. ⌜ ((p : Ready (length (now (src .entry))) (length (now (dst .entry))) (now (plan .entry)) n (now (ws .entry)) (now (wd .entry)) (now (words .entry))) → (now (dst .exit) ≡ written (entriesOf p) (now (src .entry)) (now (dst .entry))) × (r ≡ raisedBy (entriesOf p) (now (src .entry)))) ⌝ }
+    requires { ⌜ Ready (length (now src)) (length (now dst)) (now plan) entries (now «source_half») (now «destination_half») (now words) ⌝ }
+    ensures { λ r. ⌜ ((p : Ready (length (now (src .entry))) (length (now (dst .entry))) (now (plan .entry)) entries (now («source_half» .entry)) (now («destination_half» .entry)) (now (words .entry))) → (now (dst .exit) ≡ written (entriesOf p) (now (src .entry)) (now (dst .entry))) × (r ≡ raisedBy (entriesOf p) (now (src .entry)))) ⌝ }
 {
     let mut raised: u64 = 0;
     let mut i: usize = 0;
-    while i < n {
+    while i < entries {
         let e = entry(plan, i);
-        let kind = write_entry(src, dst, e, i, ws, wd, words);
+        let kind = write_entry(src, dst, e, i, source_half, destination_half, words);
         raised += counted(kind);
         i += 1;
     }
@@ -160,19 +192,19 @@ pub fn write_record(
 pub fn first_raising(
     src: &[u8],
     plan: &[u32],
-    n: usize,
-    ws: &[u32],
-    wd: &[u32],
+    entries: usize,
+    source_half: &[u32],
+    destination_half: &[u32],
     words: &[u32],
 ) -> Raising
-    requires { ⌜ ((d : ℕ) × Ready (length (now src)) d (now plan) n (now ws) (now wd) (now words)) ⌝ }
-    ensures { λ r. ⌜ ((d : ℕ) (p : Ready (length (now (src .entry))) d (now (plan .entry)) n (now (ws .entry)) (now (wd .entry)) (now (words .entry))) → r ≡ raisingOf (firstBy (entriesOf p) (now (src .entry)))) ⌝ }
+    requires { ⌜ ((d : ℕ) × Ready (length (now src)) d (now plan) entries (now «source_half») (now «destination_half») (now words)) ⌝ }
+    ensures { λ r. ⌜ ((d : ℕ) (p : Ready (length (now (src .entry))) d (now (plan .entry)) entries (now («source_half» .entry)) (now («destination_half» .entry)) (now (words .entry))) → r ≡ raisingOf (firstBy (entriesOf p) (now (src .entry)))) ⌝ }
 {
     let mut i: usize = 0;
-    while i < n {
+    while i < entries {
         let e = entry(plan, i);
         let b = e.to as u32;
-        let kind = entry_kind(src, e, i, ws, wd, words);
+        let kind = entry_kind(src, e, i, source_half, destination_half, words);
         if kind != 0 {
             return Raising::At(b, kind);
         }

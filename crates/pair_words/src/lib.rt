@@ -46,73 +46,118 @@ fn fast_word(l: Layout, m: Layout) -> u32
     )
 }
 
-// The packed word of any two enums s and d that go by a span.
-fn span_word(ws: &[u32], s: usize, wd: &[u32], d: usize) -> u32
-    requires { ⌜ Valid (layoutAt (now ws) s) × Valid (layoutAt (now wd) d) ⌝ }
-    ensures { λ r. ⌜ SpanWord (layoutAt (now (ws .entry)) s) (layoutAt (now (wd .entry)) d) r ⌝ }
+// The packed word of any two enums that go by a span.
+fn span_word(
+    source_half: &[u32],
+    source_type: usize,
+    destination_half: &[u32],
+    destination_type: usize,
+) -> u32
+    requires { ⌜ Valid (layoutAt (now «source_half») «source_type») × Valid (layoutAt (now «destination_half») «destination_type») ⌝ }
+    ensures { λ r. ⌜ SpanWord (layoutAt (now («source_half» .entry)) «source_type») (layoutAt (now («destination_half» .entry)) «destination_type») r ⌝ }
 {
-    let m = layout_at(wd, d);
+    let m = layout_at(destination_half, destination_type);
     if m.offset.0 != 0 {
         return SPAN as u32;
     }
     if m.precision != bits_of(m.size).0 {
         return SPAN as u32;
     }
-    fast_word(layout_at(ws, s), m)
+    fast_word(layout_at(source_half, source_type), m)
 }
 
-// The words of an entry from type s to the enum d, from word k on, and its span from word `free` on. The next free word is returned.
+// The words of an entry from the source type to an enum, from word `place` on, and its span from word `free` on. The next free word is returned.
 fn put_enum(
     words: &mut [u32],
-    k: usize,
+    place: usize,
     free: usize,
-    s: usize,
-    d: usize,
-    ws: &[u32],
-    ts: &[u8],
-    wd: &[u32],
-    td: &[u8],
+    source_type: usize,
+    destination_type: usize,
+    source_half: &[u32],
+    source_sheet: &[u8],
+    destination_half: &[u32],
+    destination_sheet: &[u8],
 ) -> usize
-    requires { ⌜ PairFormed (now ws) (now ts) (now wd) (now td) s d × (classWord (now wd) d ≡ 2) × EntryRoom (length (now words)) k free ⌝ }
-    ensures { λ r. ⌜ EntryPut (now (words .entry)) k free free (now (ws .entry)) (now (ts .entry)) (now (wd .entry)) (now (td .entry)) s d (now (words .exit)) r × (r ≤ length (now (words .entry))) ⌝ }
+    requires { ⌜ PairFormed (now «source_half») (now «source_sheet») (now «destination_half») (now «destination_sheet») «source_type» «destination_type» × (classWord (now «destination_half») «destination_type» ≡ 2) × EntryRoom (length (now words)) place free ⌝ }
+    ensures { λ r. ⌜ EntryPut (now (words .entry)) place free free (now («source_half» .entry)) (now («source_sheet» .entry)) (now («destination_half» .entry)) (now («destination_sheet» .entry)) «source_type» «destination_type» (now (words .exit)) r × (r ≤ length (now (words .entry))) ⌝ }
 {
-    let Span::Of(low, count) = span_of(ws, s, words.len() - free) else {
-        put_four(words, k, LOOKED_UP as u32, 0, 0, 0);
+    let Span::Of(low, count) = span_of(source_half, source_type, words.len() - free) else {
+        put_four(words, place, LOOKED_UP as u32, 0, 0, 0);
         return free;
     };
-    let code = span_word(ws, s, wd, d);
-    put_four(words, k, code, low, count, free as u32);
-    put_span(words, free, low, count, ws, ts, wd, td, s, d);
+    let code = span_word(source_half, source_type, destination_half, destination_type);
+    put_four(words, place, code, low, count, free as u32);
+    put_span(
+        words,
+        free,
+        low,
+        count,
+        source_half,
+        source_sheet,
+        destination_half,
+        destination_sheet,
+        source_type,
+        destination_type,
+    );
     free + count as usize
 }
 
-// The words of an entry from type s to type d, which is no enum, from word k on.
-fn put_plain(words: &mut [u32], k: usize, s: usize, d: usize, ws: &[u32], wd: &[u32])
-    requires { ⌜ k + 4 ≤ length (now words) ⌝ }
-    ensures { λ _. ⌜ now (words .exit) ≡ withWords (now (words .entry)) k (easyWords (layoutAt (now (ws .entry)) s) (layoutAt (now (wd .entry)) d)) ⌝ }
+// The words of an entry from the source type to a destination type that is no enum, from word `place` on.
+fn put_plain(
+    words: &mut [u32],
+    place: usize,
+    source_type: usize,
+    destination_type: usize,
+    source_half: &[u32],
+    destination_half: &[u32],
+)
+    requires { ⌜ place + 4 ≤ length (now words) ⌝ }
+    ensures { λ _. ⌜ now (words .exit) ≡ withWords (now (words .entry)) place (easyWords (layoutAt (now («source_half» .entry)) «source_type») (layoutAt (now («destination_half» .entry)) «destination_type»)) ⌝ }
 {
-    let l = layout_at(ws, s);
-    put_words(words, k, l, layout_at(wd, d));
+    let l = layout_at(source_half, source_type);
+    put_words(
+        words,
+        place,
+        l,
+        layout_at(destination_half, destination_type),
+    );
 }
 
-// The words of an entry from type s to type d, from word k on, and the span of an enum from word `free` on. The next free word is returned.
+// The words of an entry from the source type to the destination type, from word `place` on, and the span of an enum from word `free` on. The next free word is returned.
 pub fn put_pair(
     words: &mut [u32],
-    k: usize,
+    place: usize,
     free: usize,
-    s: usize,
-    d: usize,
-    ws: &[u32],
-    ts: &[u8],
-    wd: &[u32],
-    td: &[u8],
+    source_type: usize,
+    destination_type: usize,
+    source_half: &[u32],
+    source_sheet: &[u8],
+    destination_half: &[u32],
+    destination_sheet: &[u8],
 ) -> usize
-    requires { ⌜ PairFormed (now ws) (now ts) (now wd) (now td) s d × EntryRoom (length (now words)) k free ⌝ }
-    ensures { λ r. ⌜ EntryPut (now (words .entry)) k free free (now (ws .entry)) (now (ts .entry)) (now (wd .entry)) (now (td .entry)) s d (now (words .exit)) r × (r ≤ length (now (words .entry))) ⌝ }
+    requires { ⌜ PairFormed (now «source_half») (now «source_sheet») (now «destination_half») (now «destination_sheet») «source_type» «destination_type» × EntryRoom (length (now words)) place free ⌝ }
+    ensures { λ r. ⌜ EntryPut (now (words .entry)) place free free (now («source_half» .entry)) (now («source_sheet» .entry)) (now («destination_half» .entry)) (now («destination_sheet» .entry)) «source_type» «destination_type» (now (words .exit)) r × (r ≤ length (now (words .entry))) ⌝ }
 {
-    if type_word(wd, d, CLASS) == ENUM {
-        return put_enum(words, k, free, s, d, ws, ts, wd, td);
+    if type_word(destination_half, destination_type, CLASS) == ENUM {
+        return put_enum(
+            words,
+            place,
+            free,
+            source_type,
+            destination_type,
+            source_half,
+            source_sheet,
+            destination_half,
+            destination_sheet,
+        );
     }
-    put_plain(words, k, s, d, ws, wd);
+    put_plain(
+        words,
+        place,
+        source_type,
+        destination_type,
+        source_half,
+        destination_half,
+    );
     free
 }

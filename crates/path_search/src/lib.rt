@@ -22,11 +22,16 @@ use table::ROWS;
 use table::read::row_word;
 use table::read::type_word;
 
-fn path_turn(ws: &[u32], s: usize, wd: &[u32], d: usize) -> Turn
-    ensures { λ r. ⌜ ((ts td : List ℕ) → Turns (now (ws .entry)) ts s (now (wd .entry)) td d r) ⌝ }
+fn path_turn(
+    source_half: &[u32],
+    source_type: usize,
+    destination_half: &[u32],
+    destination_type: usize,
+) -> Turn
+    ensures { λ r. ⌜ ((ts td : List ℕ) → Turns (now («source_half» .entry)) ts «source_type» (now («destination_half» .entry)) td «destination_type» r) ⌝ }
 {
-    let from = kind_at(ws, s);
-    let to = kind_at(wd, d);
+    let from = kind_at(source_half, source_type);
+    let to = kind_at(destination_half, destination_type);
     if to != from {
         return Turn::Answer(false);
     }
@@ -36,41 +41,92 @@ fn path_turn(ws: &[u32], s: usize, wd: &[u32], d: usize) -> Turn
     if to != ARRAY {
         return Turn::Answer(true);
     }
-    if count_at(ws, s) != count_at(wd, d) {
+    if count_at(source_half, source_type) != count_at(destination_half, destination_type) {
         return Turn::Answer(false);
     }
-    Turn::Bases(type_word(ws, s, BASE), type_word(wd, d, BASE))
+    Turn::Bases(
+        type_word(source_half, source_type, BASE),
+        type_word(destination_half, destination_type, BASE),
+    )
 }
 
-// The types of the destination's member in row j and of the member of its name in the source compound s.
-fn path_inner(ws: &[u32], ts: &[u8], s: usize, wd: &[u32], td: &[u8], j: usize) -> Inner
-    ensures { λ r. ⌜ Inside (now (ws .entry)) (now (ts .entry)) s (now (wd .entry)) (now (td .entry)) j r ⌝ }
+// The types of the destination's member in the row and of the member of its name in the source compound.
+fn path_inner(
+    source_half: &[u32],
+    source_sheet: &[u8],
+    source_type: usize,
+    destination_half: &[u32],
+    destination_sheet: &[u8],
+    row: usize,
+) -> Inner
+    ensures { λ r. ⌜ Inside (now («source_half» .entry)) (now («source_sheet» .entry)) «source_type» (now («destination_half» .entry)) (now («destination_sheet» .entry)) row r ⌝ }
 {
-    match row_of_name(ws, ts, s, wd, td, j) {
-        Found::At(m) => Inner::Both(row_word(ws, m, MEMBER_TYPE), row_word(wd, j, MEMBER_TYPE)),
+    match row_of_name(
+        source_half,
+        source_sheet,
+        source_type,
+        destination_half,
+        destination_sheet,
+        row,
+    ) {
+        Found::At(m) => Inner::Both(
+            row_word(source_half, m, MEMBER_TYPE),
+            row_word(destination_half, row, MEMBER_TYPE),
+        ),
         Found::Missing => Inner::Neither,
     }
 }
 
-// Whether there is a path from the source type s to the destination type d, both to this depth.
-fn path_to(ws: &[u32], ts: &[u8], s: usize, wd: &[u32], td: &[u8], d: usize, depth: usize) -> bool
-    requires { ⌜ WellFormed (decode depth (now ws) (now ts) s) × WellFormed (decode depth (now wd) (now td) d) ⌝ }
-    ensures { λ r. ⌜ r ≡ hasPath (decode depth (now (ws .entry)) (now (ts .entry)) s) (decode depth (now (wd .entry)) (now (td .entry)) d) ⌝ }
+// Whether there is a path from the source type to the destination type, both to this depth.
+fn path_to(
+    source_half: &[u32],
+    source_sheet: &[u8],
+    source_type: usize,
+    destination_half: &[u32],
+    destination_sheet: &[u8],
+    destination_type: usize,
+    depth: usize,
+) -> bool
+    requires { ⌜ WellFormed (decode depth (now «source_half») (now «source_sheet») «source_type») × WellFormed (decode depth (now «destination_half») (now «destination_sheet») «destination_type») ⌝ }
+    ensures { λ r. ⌜ r ≡ hasPath (decode depth (now («source_half» .entry)) (now («source_sheet» .entry)) «source_type») (decode depth (now («destination_half» .entry)) (now («destination_sheet» .entry)) «destination_type») ⌝ }
 {
     if depth == 0 {
         return true;
     }
-    match path_turn(ws, s, wd, d) {
+    match path_turn(source_half, source_type, destination_half, destination_type) {
         Turn::Answer(a) => a,
-        Turn::Bases(k, l) => path_to(ws, ts, k, wd, td, l, depth - 1),
+        Turn::Bases(k, l) => path_to(
+            source_half,
+            source_sheet,
+            k,
+            destination_half,
+            destination_sheet,
+            l,
+            depth - 1,
+        ),
         Turn::Lists => {
-            let first = type_word(wd, d, FIRST);
-            let mut left = type_word(wd, d, ROWS);
+            let first = type_word(destination_half, destination_type, FIRST);
+            let mut left = type_word(destination_half, destination_type, ROWS);
             while 0 < left {
                 left -= 1;
-                match path_inner(ws, ts, s, wd, td, first + left) {
+                match path_inner(
+                    source_half,
+                    source_sheet,
+                    source_type,
+                    destination_half,
+                    destination_sheet,
+                    first + left,
+                ) {
                     Inner::Both(k, l) => {
-                        if !path_to(ws, ts, k, wd, td, l, depth - 1) {
+                        if !path_to(
+                            source_half,
+                            source_sheet,
+                            k,
+                            destination_half,
+                            destination_sheet,
+                            l,
+                            depth - 1,
+                        ) {
                             return false;
                         }
                     }
@@ -82,10 +138,25 @@ fn path_to(ws: &[u32], ts: &[u8], s: usize, wd: &[u32], td: &[u8], d: usize, dep
     }
 }
 
-// Whether there is a path from the source type i to the destination type k.
-pub fn has_path(ws: &[u32], ts: &[u8], i: usize, wd: &[u32], td: &[u8], k: usize) -> bool
-    requires { ⌜ WellFormed (typeAt (now ws) (now ts) i) × WellFormed (typeAt (now wd) (now td) k) ⌝ }
-    ensures { λ r. ⌜ r ≡ hasPath (typeAt (now (ws .entry)) (now (ts .entry)) i) (typeAt (now (wd .entry)) (now (td .entry)) k) ⌝ }
+// Whether there is a path from the source type to the destination type.
+pub fn has_path(
+    source_half: &[u32],
+    source_sheet: &[u8],
+    source_type: usize,
+    destination_half: &[u32],
+    destination_sheet: &[u8],
+    destination_type: usize,
+) -> bool
+    requires { ⌜ WellFormed (typeAt (now «source_half») (now «source_sheet») «source_type») × WellFormed (typeAt (now «destination_half») (now «destination_sheet») «destination_type») ⌝ }
+    ensures { λ r. ⌜ r ≡ hasPath (typeAt (now («source_half» .entry)) (now («source_sheet» .entry)) «source_type») (typeAt (now («destination_half» .entry)) (now («destination_sheet» .entry)) «destination_type») ⌝ }
 {
-    path_to(ws, ts, i, wd, td, k, MOST_TYPES)
+    path_to(
+        source_half,
+        source_sheet,
+        source_type,
+        destination_half,
+        destination_sheet,
+        destination_type,
+        MOST_TYPES,
+    )
 }

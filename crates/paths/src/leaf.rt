@@ -24,48 +24,48 @@ use table::SIZE;
 use table::read::row_word;
 use table::read::type_word;
 
-fn leaf_step(w: &[u32], i: usize, b: usize) -> Step
-    ensures { λ r. ⌜ LeafStep (now (w .entry)) i b r ⌝ }
+fn leaf_step(half: &[u32], type_number: usize, byte: usize) -> Step
+    ensures { λ r. ⌜ LeafStep (now (half .entry)) «type_number» byte r ⌝ }
 {
-    let kind = kind_at(w, i);
+    let kind = kind_at(half, type_number);
     if kind == COMPOUND {
-        let first = type_word(w, i, FIRST);
-        let n = type_word(w, i, ROWS);
-        match row_over(w, first, n, b) {
+        let first = type_word(half, type_number, FIRST);
+        let n = type_word(half, type_number, ROWS);
+        match row_over(half, first, n, byte) {
             Found::At(j) => Step::Go(
-                row_word(w, j, MEMBER_TYPE),
-                minus(b, row_word(w, j, MEMBER_OFFSET)),
+                row_word(half, j, MEMBER_TYPE),
+                minus(byte, row_word(half, j, MEMBER_OFFSET)),
             ),
             Found::Missing => Step::Gone,
         }
     } else if kind == ARRAY {
-        let z = type_word(w, i, SIZE);
-        let k = type_word(w, i, BASE);
-        let y = type_word(w, k, SIZE);
-        if b < z {
-            Step::Go(k, remainder(b, y))
+        let z = type_word(half, type_number, SIZE);
+        let k = type_word(half, type_number, BASE);
+        let y = type_word(half, k, SIZE);
+        if byte < z {
+            Step::Go(k, remainder(byte, y))
         } else {
             Step::Gone
         }
-    } else if b == 0 {
+    } else if byte == 0 {
         Step::Here
     } else {
         Step::Gone
     }
 }
 
-// The number of the type of the leaf that starts at byte b of type i.
-pub fn leaf_at(w: &[u32], i: usize, b: usize) -> Found
-    ensures { λ r. ⌜ ((t : List ℕ) → leafFound (now (w .entry)) t r ≡ leafAt (typeAt (now (w .entry)) t i) b) ⌝ }
+// The number of the type of the leaf that starts at this byte of a type.
+pub fn leaf_at(half: &[u32], type_number: usize, byte: usize) -> Found
+    ensures { λ r. ⌜ ((t : List ℕ) → leafFound (now (half .entry)) t r ≡ leafAt (typeAt (now (half .entry)) t «type_number») byte) ⌝ }
 {
-    let mut k = i;
-    let mut at = b;
+    let mut k = type_number;
+    let mut at = byte;
     let mut left: usize = MOST_TYPES;
     while 0 < left {
-        match leaf_step(w, k, at) {
-            Step::Go(inner, byte) => {
+        match leaf_step(half, k, at) {
+            Step::Go(inner, inner_byte) => {
                 k = inner;
-                at = byte;
+                at = inner_byte;
             }
             Step::Here => {
                 return Found::At(k);

@@ -22,102 +22,121 @@ use table::SIZE;
 use table::read::row_word;
 use table::read::type_word;
 
-// Byte b lies in the z bytes from offset on.
-fn inside(offset: usize, z: usize, b: usize) -> bool
+// The byte lies in the z bytes from offset on.
+fn inside(offset: usize, z: usize, byte: usize) -> bool
     requires { ⌜ (offset < 4294967296) × (z < 4294967296) ⌝ }
-    ensures { λ r. ⌜ r ≡ within offset z b ⌝ }
+    ensures { λ r. ⌜ r ≡ within offset z byte ⌝ }
 {
-    if offset <= b { b < offset + z } else { false }
+    if offset <= byte {
+        byte < offset + z
+    } else {
+        false
+    }
 }
 
-// Byte b lies in the member in row j.
-fn row_covers(w: &[u32], j: usize, b: usize) -> bool
-    ensures { λ r. ⌜ r ≡ covers (now (w .entry)) j b ⌝ }
+// The byte lies in the member in the row.
+fn row_covers(half: &[u32], row: usize, byte: usize) -> bool
+    ensures { λ r. ⌜ r ≡ covers (now (half .entry)) row byte ⌝ }
 {
-    let offset = row_word(w, j, MEMBER_OFFSET);
-    let k = row_word(w, j, MEMBER_TYPE);
-    let z = type_word(w, k, SIZE);
-    inside(offset, z, b)
+    let offset = row_word(half, row, MEMBER_OFFSET);
+    let k = row_word(half, row, MEMBER_TYPE);
+    let z = type_word(half, k, SIZE);
+    inside(offset, z, byte)
 }
 
-// Of the n rows from first on, the newest whose member has byte b.
-pub fn row_over(w: &[u32], first: usize, n: usize, b: usize) -> Found
+// Of the n rows from first on, the newest whose member has the byte.
+pub fn row_over(half: &[u32], first: usize, n: usize, byte: usize) -> Found
     requires { ⌜ (first < 4294967296) × (n < 4294967296) ⌝ }
-    ensures { λ r. ⌜ r ≡ rowOver (now (w .entry)) first n b ⌝ }
+    ensures { λ r. ⌜ r ≡ rowOver (now (half .entry)) first n byte ⌝ }
 {
     let mut left = n;
     while 0 < left {
         left -= 1;
         let j = first + left;
-        if row_covers(w, j, b) {
+        if row_covers(half, j, byte) {
             return Found::At(j);
         }
     }
     Found::Missing
 }
 
-// Where the member in row j ends.
-pub fn row_end(w: &[u32], j: usize) -> usize
-    ensures { λ r. ⌜ r ≡ rowEnd (now (w .entry)) j ⌝ }
+// Where the member in the row ends.
+pub fn row_end(half: &[u32], row: usize) -> usize
+    ensures { λ r. ⌜ r ≡ rowEnd (now (half .entry)) row ⌝ }
 {
-    let offset = row_word(w, j, MEMBER_OFFSET);
-    let k = row_word(w, j, MEMBER_TYPE);
-    offset + type_word(w, k, SIZE)
+    let offset = row_word(half, row, MEMBER_OFFSET);
+    let k = row_word(half, row, MEMBER_TYPE);
+    offset + type_word(half, k, SIZE)
 }
 
-// The lower one of o and end, where o lies behind byte b.
-fn nearer(b: usize, o: usize, end: usize) -> usize
-    requires { ⌜ b < end ⌝ }
-    ensures { λ r. ⌜ Nearer b o end r ⌝ }
+// The lower one of offset and end, where the offset lies behind the byte.
+fn nearer(byte: usize, offset: usize, end: usize) -> usize
+    requires { ⌜ byte < end ⌝ }
+    ensures { λ r. ⌜ Nearer byte offset end r ⌝ }
 {
-    if b < o {
-        if o < end {
-            return o;
+    if byte < offset {
+        if offset < end {
+            return offset;
         }
     }
     end
 }
 
-// Of the n rows from first on, where the next member behind byte b starts; `end` where none does before it.
-pub fn gap_end(w: &[u32], first: usize, n: usize, b: usize, end: usize) -> usize
-    requires { ⌜ (first < 4294967296) × (n < 4294967296) × (b < end) ⌝ }
-    ensures { λ r. ⌜ GapEnd (now (w .entry)) first 0 n b end r ⌝ }
+// Of the n rows from first on, where the next member behind the byte starts; `end` where none does before it.
+pub fn gap_end(half: &[u32], first: usize, n: usize, byte: usize, end: usize) -> usize
+    requires { ⌜ (first < 4294967296) × (n < 4294967296) × (byte < end) ⌝ }
+    ensures { λ r. ⌜ GapEnd (now (half .entry)) first 0 n byte end r ⌝ }
 {
     let mut left = n;
     let mut at = end;
     while 0 < left {
         left -= 1;
-        let o = row_word(w, first + left, MEMBER_OFFSET);
-        at = nearer(b, o, at);
+        let o = row_word(half, first + left, MEMBER_OFFSET);
+        at = nearer(byte, o, at);
     }
     at
 }
 
-// The row of the source type s that has the name of the destination's row j.
-pub fn row_of_name(ws: &[u32], ts: &[u8], s: usize, wd: &[u32], td: &[u8], j: usize) -> Found
-    ensures { λ r. ⌜ r ≡ rowNamed (now (ws .entry)) (now (ts .entry)) (nameAt (now (wd .entry)) (now (td .entry)) j) (firstWord (now (ws .entry)) s) (rowsWord (now (ws .entry)) s) ⌝ }
+// The row of the source type that has the name of the destination's row.
+pub fn row_of_name(
+    source_half: &[u32],
+    source_sheet: &[u8],
+    source_type: usize,
+    destination_half: &[u32],
+    destination_sheet: &[u8],
+    row: usize,
+) -> Found
+    ensures { λ r. ⌜ r ≡ rowNamed (now («source_half» .entry)) (now («source_sheet» .entry)) (nameAt (now («destination_half» .entry)) (now («destination_sheet» .entry)) row) (firstWord (now («source_half» .entry)) «source_type») (rowsWord (now («source_half» .entry)) «source_type») ⌝ }
 {
-    let start = row_word(wd, j, NAME);
-    let len = row_word(wd, j, NAME_LENGTH);
-    let first = type_word(ws, s, FIRST);
-    let n = type_word(ws, s, ROWS);
-    row_named(ws, ts, first, n, td, start, len)
+    let start = row_word(destination_half, row, NAME);
+    let len = row_word(destination_half, row, NAME_LENGTH);
+    let first = type_word(source_half, source_type, FIRST);
+    let n = type_word(source_half, source_type, ROWS);
+    row_named(
+        source_half,
+        source_sheet,
+        first,
+        n,
+        destination_sheet,
+        start,
+        len,
+    )
 }
 
-// The kind of type i: 0 int, 1 bits, 2 enum, 3 compound, 4 array.
-pub fn kind_at(w: &[u32], i: usize) -> usize
-    ensures { λ r. ⌜ r ≡ kindAt (now (w .entry)) i ⌝ }
+// The kind of a type: 0 int, 1 bits, 2 enum, 3 compound, 4 array.
+pub fn kind_at(half: &[u32], type_number: usize) -> usize
+    ensures { λ r. ⌜ r ≡ kindAt (now (half .entry)) «type_number» ⌝ }
 {
-    let class = type_word(w, i, CLASS);
+    let class = type_word(half, type_number, CLASS);
     if class < CLASSES { class } else { INT }
 }
 
-// How many elements the array type i has.
-pub fn count_at(w: &[u32], i: usize) -> usize
-    ensures { λ r. ⌜ Counts (now (w .entry)) i r ⌝ }
+// How many elements the array type has.
+pub fn count_at(half: &[u32], type_number: usize) -> usize
+    ensures { λ r. ⌜ Counts (now (half .entry)) «type_number» r ⌝ }
 {
-    let z = type_word(w, i, SIZE);
-    let k = type_word(w, i, BASE);
-    let y = type_word(w, k, SIZE);
+    let z = type_word(half, type_number, SIZE);
+    let k = type_word(half, type_number, BASE);
+    let y = type_word(half, k, SIZE);
     quotient(z, y)
 }

@@ -2,23 +2,48 @@
 ghost use lib.ListN.{length};
 ghost use Rattle.two_sheets.specs.TwoSheets.{Both};
 ghost use Rattle.plan_making.specs.Made.{Room, Made};
+use entry_words::put_entries;
+use name_ids::put_names;
 
-// The plan from type i of the source sheet to type k of the destination sheet, and its words; how many entries it has.
+// The plan from a type of the source sheet to one of the destination sheet, and its words; how many entries it has.
 pub fn make_plan(
-    ss: &[u8],
-    ds: &[u8],
-    ws: &[u32],
-    i: usize,
-    wd: &[u32],
-    k: usize,
+    source_sheet: &[u8],
+    destination_sheet: &[u8],
+    source_half: &[u32],
+    source_type: usize,
+    destination_half: &[u32],
+    destination_type: usize,
     plan: &mut [u32],
     words: &mut [u32],
 ) -> usize
-    requires { ⌜ Both (now ss) (now ws) i (now ds) (now wd) k × Room (now ds) (now wd) k (length (now plan)) (length (now words)) ⌝ }
-    ensures { λ r. ⌜ Made (now (ss .entry)) (now (ws .entry)) i (now (ds .entry)) (now (wd .entry)) k (now (plan .exit)) r (now (words .exit)) ⌝ }
+    requires { ⌜ Both (now «source_sheet») (now «source_half») «source_type» (now «destination_sheet») (now «destination_half») «destination_type» × Room (now «destination_sheet») (now «destination_half») «destination_type» (length (now plan)) (length (now words)) ⌝ }
+    ensures { λ r. ⌜ Made (now («source_sheet» .entry)) (now («source_half» .entry)) «source_type» (now («destination_sheet» .entry)) (now («destination_half» .entry)) «destination_type» (now (plan .exit)) r (now (words .exit)) ⌝ }
 {
-    let n = planning::plan(ws, ss, i, wd, ds, k, plan);
-    entry_words::put_entries(plan, n, ws, ss, wd, ds, words);
-    name_ids::put_names(n, ws, ss, wd, ds, words);
-    n
+    let entries = planning::plan(
+        source_half,
+        source_sheet,
+        source_type,
+        destination_half,
+        destination_sheet,
+        destination_type,
+        plan,
+    );
+    put_entries(
+        plan,
+        entries,
+        source_half,
+        source_sheet,
+        destination_half,
+        destination_sheet,
+        words,
+    );
+    put_names(
+        entries,
+        source_half,
+        source_sheet,
+        destination_half,
+        destination_sheet,
+        words,
+    );
+    entries
 }

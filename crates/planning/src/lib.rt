@@ -14,58 +14,84 @@ use plans::TYPES;
 use table::SIZE;
 use table::read::type_word;
 
-// Entry n: the destination's byte, the source's byte, the source leaf's type number and the destination leaf's.
-fn put_entry(plan: &mut [u32], n: usize, to: usize, from: usize, s: usize, d: usize)
-    requires { ⌜ (2 * n + 2 ≤ length (now plan)) × (to < 4096) × (from < 4096) × (s < 64) × (d < 64) ⌝ }
-    ensures { λ _. ⌜ now (plan .exit) ≡ entryPut (now (plan .entry)) n to from s d ⌝ }
+// Entry i: the destination's byte, the source's byte, the source leaf's type number and the destination leaf's.
+fn put_entry(
+    plan: &mut [u32],
+    i: usize,
+    destination_byte: usize,
+    source_byte: usize,
+    source_type: usize,
+    destination_type: usize,
+)
+    requires { ⌜ (2 * i + 2 ≤ length (now plan)) × («destination_byte» < 4096) × («source_byte» < 4096) × («source_type» < 64) × («destination_type» < 64) ⌝ }
+    ensures { λ _. ⌜ now (plan .exit) ≡ entryPut (now (plan .entry)) i «destination_byte» «source_byte» «source_type» «destination_type» ⌝ }
 {
-    let at = 2 * n;
-    plan[at] = (to * BYTES + from) as u32;
-    plan[at + 1] = (s * TYPES + d) as u32;
+    let at = 2 * i;
+    plan[at] = (destination_byte * BYTES + source_byte) as u32;
+    plan[at + 1] = (source_type * TYPES + destination_type) as u32;
 }
 
-// The n entries so far and one more where the leaf at byte b is matched; how many there are then.
-fn add_entry(plan: &mut [u32], n: usize, b: usize, m: Pair) -> usize
-    requires { ⌜ (2 * n + 2 ≤ length (now plan)) × (b < 4096) × Small m ⌝ }
-    ensures { λ r. ⌜ Added (now (plan .entry)) n b m (now (plan .exit)) r ⌝ }
+// The entries so far and one more where the leaf at this byte is matched; how many there are then.
+fn add_entry(plan: &mut [u32], entries: usize, destination_byte: usize, m: Pair) -> usize
+    requires { ⌜ (2 * entries + 2 ≤ length (now plan)) × («destination_byte» < 4096) × Small m ⌝ }
+    ensures { λ r. ⌜ Added (now (plan .entry)) entries «destination_byte» m (now (plan .exit)) r ⌝ }
 {
-    let Pair::Matched(a, s, d) = m else {
-        return n;
+    let Pair::Matched(source_byte, source_type, destination_type) = m else {
+        return entries;
     };
-    put_entry(plan, n, b, a, s, d);
-    n + 1
+    put_entry(
+        plan,
+        entries,
+        destination_byte,
+        source_byte,
+        source_type,
+        destination_type,
+    );
+    entries + 1
 }
 
 // How many bytes on the next leaf may start: behind a matched one, or behind the bytes without a match.
-fn step_of(wd: &[u32], m: Pair) -> usize
-    ensures { λ r. ⌜ r ≡ stepOf (now (wd .entry)) m ⌝ }
+fn step_of(destination_half: &[u32], m: Pair) -> usize
+    ensures { λ r. ⌜ r ≡ stepOf (now («destination_half» .entry)) m ⌝ }
 {
     match m {
-        Pair::Matched(a, s, d) => type_word(wd, d, SIZE),
+        Pair::Matched(source_byte, source_type, destination_type) => type_word(
+            destination_half,
+            destination_type,
+            SIZE,
+        ),
         Pair::Unmatched(n) => n,
     }
 }
 
-// The matched leaves from the source type i to the destination type k; how many there are.
+// The matched leaves from the source type to the destination type; how many there are.
 pub fn plan(
-    ws: &[u32],
-    ts: &[u8],
-    i: usize,
-    wd: &[u32],
-    td: &[u8],
-    k: usize,
+    source_half: &[u32],
+    source_sheet: &[u8],
+    source_type: usize,
+    destination_half: &[u32],
+    destination_sheet: &[u8],
+    destination_type: usize,
     plan: &mut [u32],
 ) -> usize
-    requires { ⌜ WellFormed (typeAt (now ws) (now ts) i) × WellFormed (typeAt (now wd) (now td) k) × (2 * size (typeAt (now wd) (now td) k) ≤ length (now plan)) ⌝ }
-    ensures { λ r. ⌜ Planned (now (ws .entry)) (now (ts .entry)) i (now (wd .entry)) (now (td .entry)) k (now (plan .entry)) (now (plan .exit)) r ⌝ }
+    requires { ⌜ WellFormed (typeAt (now «source_half») (now «source_sheet») «source_type») × WellFormed (typeAt (now «destination_half») (now «destination_sheet») «destination_type») × (2 * size (typeAt (now «destination_half») (now «destination_sheet») «destination_type») ≤ length (now plan)) ⌝ }
+    ensures { λ r. ⌜ Planned (now («source_half» .entry)) (now («source_sheet» .entry)) «source_type» (now («destination_half» .entry)) (now («destination_sheet» .entry)) «destination_type» (now (plan .entry)) (now (plan .exit)) r ⌝ }
 {
-    let bytes = type_word(wd, k, SIZE);
-    let mut n: usize = 0;
-    let mut b: usize = 0;
-    while b < bytes {
-        let m = match_at(ws, ts, i, wd, td, k, b);
-        n = add_entry(plan, n, b, m);
-        b += step_of(wd, m);
+    let bytes = type_word(destination_half, destination_type, SIZE);
+    let mut entries: usize = 0;
+    let mut destination_byte: usize = 0;
+    while destination_byte < bytes {
+        let m = match_at(
+            source_half,
+            source_sheet,
+            source_type,
+            destination_half,
+            destination_sheet,
+            destination_type,
+            destination_byte,
+        );
+        entries = add_entry(plan, entries, destination_byte, m);
+        destination_byte += step_of(destination_half, m);
     }
-    n
+    entries
 }

@@ -21,28 +21,37 @@ use sheet_steps::MOST_TEXT;
 use sheet_steps::SheetRead;
 
 // What a line that was read adds to the table.
-fn judge_line(w: &mut [u32], t: &[u8], n: u32, m: u32, r: ReadLine) -> Judged
-    requires { ⌜ Holds (now w) n m × (namesWithin (now t) (r .line) ≡ true) × (length (now t) ≤ 16384) ⌝ }
-    ensures { λ j. ⌜ Judges (now (w .exit)) (now (t .entry)) (readJudged (now (t .entry)) r (soFarAt (now (w .entry)) (now (t .entry)) n m)) j ⌝ }
+fn judge_line(half: &mut [u32], sheet: &[u8], types: u32, rows: u32, r: ReadLine) -> Judged
+    requires { ⌜ Holds (now half) types rows × (namesWithin (now sheet) (r .line) ≡ true) × (length (now sheet) ≤ 16384) ⌝ }
+    ensures { λ j. ⌜ Judges (now (half .exit)) (now (sheet .entry)) (readJudged (now (sheet .entry)) r (soFarAt (now (half .entry)) (now (sheet .entry)) types rows)) j ⌝ }
 {
     let line = r.line;
     let dims = r.dims;
     match line {
-        Line::Atomic(l, _) => judge_atomic(w, t, n, m, l),
-        Line::Enum(base, _) => judge_enum(w, t, n, m, base),
+        Line::Atomic(l, _) => judge_atomic(half, sheet, types, rows, l),
+        Line::Enum(base, _) => judge_enum(half, sheet, types, rows, base),
         Line::Value(a, e, negative, distance, _) => judge_value(
-            w,
-            t,
-            n,
-            m,
+            half,
+            sheet,
+            types,
+            rows,
             a,
             e - a,
             negative,
             distance,
         ),
-        Line::Compound(size, _) => judge_compound(w, t, n, m, size),
-        Line::Member(a, e, offset, kind, _) => judge_member(w, t, n, m, a, e - a, offset, kind),
-        Line::Array(base, _) => judge_array(w, t, n, m, base, dims),
+        Line::Compound(size, _) => judge_compound(half, sheet, types, rows, size),
+        Line::Member(a, e, offset, kind, _) => judge_member(
+            half,
+            sheet,
+            types,
+            rows,
+            a,
+            e - a,
+            offset,
+            kind,
+        ),
+        Line::Array(base, _) => judge_array(half, sheet, types, rows, base, dims),
         Line::Fault => Judged::Refused,
     }
 }
@@ -63,19 +72,19 @@ fn next_of(line: Line) -> usize
 }
 
 // The lines of a sheet that is not too long.
-fn read_lines(t: &[u8], w: &mut [u32]) -> SheetRead
-    requires { ⌜ (length (now t) ≤ 16384) × (length (now w) ≡ 4096) ⌝ }
-    ensures { λ r. ⌜ ReadsLines (now (t .entry)) (now (w .exit)) r ⌝ }
+fn read_lines(sheet: &[u8], half: &mut [u32]) -> SheetRead
+    requires { ⌜ (length (now sheet) ≤ 16384) × (length (now half) ≡ 4096) ⌝ }
+    ensures { λ r. ⌜ ReadsLines (now (sheet .entry)) (now (half .exit)) r ⌝ }
 {
     let mut at: usize = 0;
     let mut n: u32 = 0;
     let mut m: u32 = 0;
     let mut k: u32 = 1;
-    while at < t.len() {
-        let r = read_line(t, at);
+    while at < sheet.len() {
+        let r = read_line(sheet, at);
         let line = r.line;
         let next = next_of(line);
-        match judge_line(w, t, n, m, r) {
+        match judge_line(half, sheet, n, m, r) {
             Judged::Accepted(types, rows) => {
                 n = types;
                 m = rows;
@@ -94,17 +103,17 @@ fn read_lines(t: &[u8], w: &mut [u32]) -> SheetRead
 }
 
 // Reads a sheet: its types and rows stand in the table then, or its first faulty line is told.
-pub fn read_sheet(t: &[u8], w: &mut [u32]) -> SheetRead
-    requires { ⌜ length (now w) ≡ 4096 ⌝ }
-    ensures { λ r. ⌜ ReadsSheet (now (t .entry)) (now (w .exit)) r ⌝ }
+pub fn read_sheet(sheet: &[u8], half: &mut [u32]) -> SheetRead
+    requires { ⌜ length (now half) ≡ 4096 ⌝ }
+    ensures { λ r. ⌜ ReadsSheet (now (sheet .entry)) (now (half .exit)) r ⌝ }
 {
-    if MOST_TEXT < t.len() {
+    if MOST_TEXT < sheet.len() {
         return SheetRead::Faulty(0);
     }
-    match read_lines(t, w) {
-        SheetRead::Types(n, m) => {
-            table::store::clear_types(w, n as usize);
-            SheetRead::Types(n, m)
+    match read_lines(sheet, half) {
+        SheetRead::Types(types, rows) => {
+            table::store::clear_types(half, types as usize);
+            SheetRead::Types(types, rows)
         }
         SheetRead::Faulty(k) => SheetRead::Faulty(k),
     }

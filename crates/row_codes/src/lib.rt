@@ -9,6 +9,9 @@ ghost use Rattle.plans.specs.PlanWords.{symbolRows, rowCode, spanCode, rowAlike
 ghost use Rattle.plans.specs.LeafSteps.{allOnes, codeBits, lookedCode};
 use bits::shift::ones;
 use easy::at;
+use entry_code::SPAN_COUNT;
+use entry_code::SPAN_LOW;
+use entry_code::SPAN_ROWS;
 use number::Fitted;
 use number::NO_SYMBOL;
 use number::Parts;
@@ -35,15 +38,15 @@ fn minus(a: u64, b: u64) -> u64
     if b < a { a - b } else { 0 }
 }
 
-// The significant bits of the number in row j, in an enum of this precision.
-pub fn value_bits(w: &[u32], j: usize, precision: u32) -> u64
+// The significant bits of the number in the row, in an enum of this precision.
+pub fn value_bits(half: &[u32], row: usize, precision: u32) -> u64
     requires { ⌜ precision ≤ 64 ⌝ }
-    ensures { λ r. ⌜ r ≡ bitsOf precision (valueAt (now (w .entry)) j) ⌝ }
+    ensures { λ r. ⌜ r ≡ bitsOf precision (valueAt (now (half .entry)) row) ⌝ }
 {
-    let low = row_word(w, j, VALUE_LOW);
-    let high = row_word(w, j, VALUE_HIGH);
+    let low = row_word(half, row, VALUE_LOW);
+    let high = row_word(half, row, VALUE_HIGH);
     let distance = (low + high * HIGH) as u64;
-    if flag_of(row_word(w, j, VALUE_SIGN)) {
+    if flag_of(row_word(half, row, VALUE_SIGN)) {
         return minus(ones(precision), distance);
     }
     distance
@@ -60,41 +63,41 @@ fn all_ones(precision: u32) -> Fitted
 }
 
 // A row in one word, as significant bits of an enum of this precision.
-pub fn code_bits(w: &[u32], code: usize, precision: u32) -> Fitted
+pub fn code_bits(half: &[u32], code: usize, precision: u32) -> Fitted
     requires { ⌜ precision ≤ 64 ⌝ }
-    ensures { λ r. ⌜ r ≡ codeBits (now (w .entry)) precision code ⌝ }
+    ensures { λ r. ⌜ r ≡ codeBits (now (half .entry)) precision code ⌝ }
 {
     if code == 0 {
         return all_ones(precision);
     }
     Fitted {
-        raw: value_bits(w, code - 1, precision),
+        raw: value_bits(half, code - 1, precision),
         kind: 0,
     }
 }
 
-// The row for significant bits in one word, by the span of which words k + 1 to k + 3 tell.
-pub fn span_code(words: &[u32], k: usize, raw: u64) -> usize
-    requires { ⌜ k + 4 ≤ length (now words) ⌝ }
-    ensures { λ r. ⌜ (r ≡ spanCode (now (words .entry)) k raw) × (r < 4294967296) ⌝ }
+// The row for significant bits in one word, by the span of which the entry's words from `place` on tell.
+pub fn span_code(words: &[u32], place: usize, raw: u64) -> usize
+    requires { ⌜ place + 4 ≤ length (now words) ⌝ }
+    ensures { λ r. ⌜ (r ≡ spanCode (now (words .entry)) place raw) × (r < 4294967296) ⌝ }
 {
-    let lowest = at(words, k + 1) as u64;
+    let lowest = at(words, place + SPAN_LOW) as u64;
     if raw < lowest {
         return 0;
     }
     let i = (raw - lowest) as usize;
-    if i < at(words, k + 2) {
-        return word(words, at(words, k + 3) + i);
+    if i < at(words, place + SPAN_COUNT) {
+        return word(words, at(words, place + SPAN_ROWS) + i);
     }
     0
 }
 
-// How many symbols type k has.
-pub fn symbol_rows(w: &[u32], k: usize) -> usize
-    ensures { λ r. ⌜ (r ≡ symbolRows (now (w .entry)) k) × (r < 4294967296) ⌝ }
+// How many symbols a type has.
+pub fn symbol_rows(half: &[u32], type_number: usize) -> usize
+    ensures { λ r. ⌜ (r ≡ symbolRows (now (half .entry)) «type_number») × (r < 4294967296) ⌝ }
 {
-    if type_word(w, k, CLASS) == ENUM {
-        type_word(w, k, ROWS)
+    if type_word(half, type_number, CLASS) == ENUM {
+        type_word(half, type_number, ROWS)
     } else {
         0
     }
@@ -116,23 +119,35 @@ fn row_alike(words: &[u32], id: usize, first: usize, n: usize) -> usize
     0
 }
 
-// The row of the destination enum d that has the name of source row j, in one word.
-fn alike_code(words: &[u32], j: usize, d: usize, wd: &[u32]) -> usize
-    ensures { λ r. ⌜ r ≡ rowCode (rowAlike (now (words .entry)) (getD (now (words .entry)) j 0) (firstWord (now (wd .entry)) d) (rowsWord (now (wd .entry)) d)) ⌝ }
+// The row of the destination enum that has the name of a source row, in one word.
+fn alike_code(words: &[u32], row: usize, destination_type: usize, destination_half: &[u32]) -> usize
+    ensures { λ r. ⌜ r ≡ rowCode (rowAlike (now (words .entry)) (getD (now (words .entry)) row 0) (firstWord (now («destination_half» .entry)) «destination_type») (rowsWord (now («destination_half» .entry)) «destination_type»)) ⌝ }
 {
-    let id = word(words, j);
-    let first = type_word(wd, d, FIRST);
-    row_alike(words, id, first, type_word(wd, d, ROWS))
+    let id = word(words, row);
+    let first = type_word(destination_half, destination_type, FIRST);
+    row_alike(
+        words,
+        id,
+        first,
+        type_word(destination_half, destination_type, ROWS),
+    )
 }
 
-// The row of the destination enum d for the number z of source type s, in one word: the rows are looked through.
-pub fn looked_code(z: Parts, s: usize, d: usize, ws: &[u32], wd: &[u32], words: &[u32]) -> usize
-    ensures { λ r. ⌜ r ≡ lookedCode (now (words .entry)) (now (ws .entry)) (now (wd .entry)) s d (signedBy (z .negative) (z .distance)) ⌝ }
+// The row of the destination enum for the number z of the source type, in one word: the rows are looked through.
+pub fn looked_code(
+    z: Parts,
+    source_type: usize,
+    destination_type: usize,
+    source_half: &[u32],
+    destination_half: &[u32],
+    words: &[u32],
+) -> usize
+    ensures { λ r. ⌜ r ≡ lookedCode (now (words .entry)) (now («source_half» .entry)) (now («destination_half» .entry)) «source_type» «destination_type» (signedBy (z .negative) (z .distance)) ⌝ }
 {
-    let first = type_word(ws, s, FIRST);
-    let rows = symbol_rows(ws, s);
-    match row_numbered(ws, first, rows, z.negative, z.distance) {
-        Found::At(j) => alike_code(words, j, d, wd),
+    let first = type_word(source_half, source_type, FIRST);
+    let rows = symbol_rows(source_half, source_type);
+    match row_numbered(source_half, first, rows, z.negative, z.distance) {
+        Found::At(row) => alike_code(words, row, destination_type, destination_half),
         Found::Missing => 0,
     }
 }

@@ -16,8 +16,8 @@ use table::read::row_word;
 
 // Of the n rows from first on, the newest whose name is the len bytes of x from start on.
 pub fn row_named(
-    w: &[u32],
-    t: &[u8],
+    half: &[u32],
+    sheet: &[u8],
     first: usize,
     n: usize,
     x: &[u8],
@@ -25,26 +25,26 @@ pub fn row_named(
     len: usize,
 ) -> Found
     requires { ⌜ (first < 4294967296) × (n < 4294967296) × (start < 4294967296) × (len < 4294967296) ⌝ }
-    ensures { λ r. ⌜ r ≡ rowNamed (now (w .entry)) (now (t .entry)) (bytesAt (now (x .entry)) start len) first n ⌝ }
+    ensures { λ r. ⌜ r ≡ rowNamed (now (half .entry)) (now (sheet .entry)) (bytesAt (now (x .entry)) start len) first n ⌝ }
 {
     let mut left = n;
     while 0 < left {
         left -= 1;
         let j = first + left;
-        if has_name(w, t, j, x, start, len) {
+        if has_name(half, sheet, j, x, start, len) {
             return Found::At(j);
         }
     }
     Found::Missing
 }
 
-// The value in row j has this number.
-fn has_number(w: &[u32], j: usize, negative: bool, distance: u64) -> bool
-    ensures { λ r. ⌜ r ≡ sameNumber (signedBy negative distance) (valueAt (now (w .entry)) j) ⌝ }
+// The value in the row has this number.
+fn has_number(half: &[u32], row: usize, negative: bool, distance: u64) -> bool
+    ensures { λ r. ⌜ r ≡ sameNumber (signedBy negative distance) (valueAt (now (half .entry)) row) ⌝ }
 {
-    let sign = flag_of(row_word(w, j, VALUE_SIGN));
-    let low = row_word(w, j, VALUE_LOW);
-    let high = row_word(w, j, VALUE_HIGH);
+    let sign = flag_of(row_word(half, row, VALUE_SIGN));
+    let low = row_word(half, row, VALUE_LOW);
+    let high = row_word(half, row, VALUE_HIGH);
     let held = (low + high * HIGH) as u64;
     if sign {
         if negative { distance == held } else { false }
@@ -54,15 +54,15 @@ fn has_number(w: &[u32], j: usize, negative: bool, distance: u64) -> bool
 }
 
 // Of the n rows from first on, the newest whose value has this number.
-pub fn row_numbered(w: &[u32], first: usize, n: usize, negative: bool, distance: u64) -> Found
+pub fn row_numbered(half: &[u32], first: usize, n: usize, negative: bool, distance: u64) -> Found
     requires { ⌜ (first < 4294967296) × (n < 4294967296) ⌝ }
-    ensures { λ r. ⌜ r ≡ rowNumbered (now (w .entry)) (signedBy negative distance) first n ⌝ }
+    ensures { λ r. ⌜ r ≡ rowNumbered (now (half .entry)) (signedBy negative distance) first n ⌝ }
 {
     let mut left = n;
     while 0 < left {
         left -= 1;
         let j = first + left;
-        if has_number(w, j, negative, distance) {
+        if has_number(half, j, negative, distance) {
             return Found::At(j);
         }
     }

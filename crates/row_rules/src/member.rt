@@ -14,14 +14,14 @@ use table::SIZE;
 use table::read::row_word;
 use table::read::type_word;
 
-// The width bytes from offset on overlap no byte of the member in row j.
-fn is_beside(w: &[u32], j: usize, offset: usize, width: usize) -> bool
+// The width bytes from offset on overlap no byte of the member in the row.
+fn is_beside(half: &[u32], row: usize, offset: usize, width: usize) -> bool
     requires { ⌜ (offset < 4294967296) × (width < 4294967296) ⌝ }
-    ensures { λ r. ⌜ r ≡ isBeside (now (w .entry)) j offset width ⌝ }
+    ensures { λ r. ⌜ r ≡ isBeside (now (half .entry)) row offset width ⌝ }
 {
-    let o = row_word(w, j, MEMBER_OFFSET);
-    let k = row_word(w, j, MEMBER_TYPE);
-    let z = type_word(w, k, SIZE);
+    let o = row_word(half, row, MEMBER_OFFSET);
+    let k = row_word(half, row, MEMBER_TYPE);
+    let z = type_word(half, k, SIZE);
     if offset + width <= o {
         return true;
     }
@@ -29,40 +29,40 @@ fn is_beside(w: &[u32], j: usize, offset: usize, width: usize) -> bool
 }
 
 // The same for each of the n rows from first on.
-fn is_apart(w: &[u32], first: usize, n: usize, offset: usize, width: usize) -> bool
+fn is_apart(half: &[u32], first: usize, n: usize, offset: usize, width: usize) -> bool
     requires { ⌜ (first < 4294967296) × (n < 4294967296) × (offset < 4294967296) × (width < 4294967296) ⌝ }
-    ensures { λ r. ⌜ r ≡ apartAt (now (w .entry)) first n offset width ⌝ }
+    ensures { λ r. ⌜ r ≡ apartAt (now (half .entry)) first n offset width ⌝ }
 {
     let mut left = n;
     while 0 < left {
         left -= 1;
-        if !is_beside(w, first + left, offset, width) {
+        if !is_beside(half, first + left, offset, width) {
             return false;
         }
     }
     true
 }
 
-// The compound i may have a member of this name and width at offset.
+// The compound may have a member of this name and width at offset.
 pub fn may_place(
-    w: &[u32],
-    t: &[u8],
-    i: usize,
+    half: &[u32],
+    sheet: &[u8],
+    type_number: usize,
     start: usize,
     len: usize,
     offset: usize,
     width: usize,
 ) -> bool
     requires { ⌜ (start < 4294967296) × (len < 4294967296) × (offset < 4294967296) × (width < 4294967296) ⌝ }
-    ensures { λ r. ⌜ r ≡ mayPlace (sizeWord (now (w .entry)) i) (membersAt (typeAt (now (w .entry)) (now (t .entry))) (now (w .entry)) (now (t .entry)) (firstWord (now (w .entry)) i) (rowsWord (now (w .entry)) i)) (bytesAt (now (t .entry)) start len) offset width ⌝ }
+    ensures { λ r. ⌜ r ≡ mayPlace (sizeWord (now (half .entry)) «type_number») (membersAt (typeAt (now (half .entry)) (now (sheet .entry))) (now (half .entry)) (now (sheet .entry)) (firstWord (now (half .entry)) «type_number») (rowsWord (now (half .entry)) «type_number»)) (bytesAt (now (sheet .entry)) start len) offset width ⌝ }
 {
-    let first = type_word(w, i, FIRST);
-    let rows = type_word(w, i, ROWS);
-    if !is_missing(row_named(w, t, first, rows, t, start, len)) {
+    let first = type_word(half, type_number, FIRST);
+    let rows = type_word(half, type_number, ROWS);
+    if !is_missing(row_named(half, sheet, first, rows, sheet, start, len)) {
         return false;
     }
-    if type_word(w, i, SIZE) < offset + width {
+    if type_word(half, type_number, SIZE) < offset + width {
         return false;
     }
-    is_apart(w, first, rows, offset, width)
+    is_apart(half, first, rows, offset, width)
 }

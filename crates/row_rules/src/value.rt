@@ -52,26 +52,26 @@ pub fn in_range(l: Layout, negative: bool, distance: u64) -> bool
     fits_in(distance, l.precision)
 }
 
-// The enum i may have a value of this name and number.
+// The enum may have a value of this name and number.
 pub fn may_list(
-    w: &[u32],
-    t: &[u8],
-    i: usize,
+    half: &[u32],
+    sheet: &[u8],
+    type_number: usize,
     start: usize,
     len: usize,
     negative: bool,
     distance: u64,
 ) -> bool
     requires { ⌜ (start < 4294967296) × (len < 4294967296) ⌝ }
-    ensures { λ r. ⌜ r ≡ mayList (layoutAt (now (w .entry)) i) (symbolsAt (now (w .entry)) (now (t .entry)) (firstWord (now (w .entry)) i) (rowsWord (now (w .entry)) i)) (bytesAt (now (t .entry)) start len) (signedBy negative distance) ⌝ }
+    ensures { λ r. ⌜ r ≡ mayList (layoutAt (now (half .entry)) «type_number») (symbolsAt (now (half .entry)) (now (sheet .entry)) (firstWord (now (half .entry)) «type_number») (rowsWord (now (half .entry)) «type_number»)) (bytesAt (now (sheet .entry)) start len) (signedBy negative distance) ⌝ }
 {
-    let first = type_word(w, i, FIRST);
-    let rows = type_word(w, i, ROWS);
-    if !is_missing(row_named(w, t, first, rows, t, start, len)) {
+    let first = type_word(half, type_number, FIRST);
+    let rows = type_word(half, type_number, ROWS);
+    if !is_missing(row_named(half, sheet, first, rows, sheet, start, len)) {
         return false;
     }
-    if !is_missing(row_numbered(w, first, rows, negative, distance)) {
+    if !is_missing(row_numbered(half, first, rows, negative, distance)) {
         return false;
     }
-    in_range(layout_at(w, i), negative, distance)
+    in_range(layout_at(half, type_number), negative, distance)
 }

@@ -9,23 +9,30 @@ use loops::Stop;
 use one_record::first_raising;
 use plans::Raising;
 
-// The first of c records of s bytes in src that raises an exception, and its first leaf that does.
+// The first of so many source records in src that raises an exception, and its first leaf that does.
 pub fn first_exception(
     src: &[u8],
-    c: usize,
-    s: usize,
+    count: usize,
+    source_size: usize,
     plan: &[u32],
-    n: usize,
-    ws: &[u32],
-    wd: &[u32],
+    entries: usize,
+    source_half: &[u32],
+    destination_half: &[u32],
     words: &[u32],
 ) -> Stop
-    requires { ⌜ ((d : ℕ) × Job s d (now plan) n (now ws) (now wd) (now words)) × (c ≤ 65536) × (c * s ≤ length (now src)) ⌝ }
-    ensures { λ r. ⌜ ((d : ℕ) (j : Job s d (now (plan .entry)) n (now (ws .entry)) (now (wd .entry)) (now (words .entry))) → r ≡ stopBy (planOf (j .source) (j .destination)) s (now (src .entry)) 0 c) ⌝ }
+    requires { ⌜ ((d : ℕ) × Job «source_size» d (now plan) entries (now «source_half») (now «destination_half») (now words)) × (count ≤ 65536) × (count * «source_size» ≤ length (now src)) ⌝ }
+    ensures { λ r. ⌜ ((d : ℕ) (j : Job «source_size» d (now (plan .entry)) entries (now («source_half» .entry)) (now («destination_half» .entry)) (now (words .entry))) → r ≡ stopBy (planOf (j .source) (j .destination)) «source_size» (now (src .entry)) 0 count) ⌝ }
 {
     let mut i: usize = 0;
-    while i < c {
-        if let Raising::At(b, kind) = first_raising(&src[i * s..], plan, n, ws, wd, words) {
+    while i < count {
+        if let Raising::At(b, kind) = first_raising(
+            &src[i * source_size..],
+            plan,
+            entries,
+            source_half,
+            destination_half,
+            words,
+        ) {
             return Stop::At(i as u32, b, kind);
         }
         i += 1;

@@ -20,33 +20,33 @@ use plans::NAMES;
 // Where a record begins that so many others follow, there are eight bytes to be read.
 const FOLLOWERS: usize = 7;
 
-// All of c records but the last ones.
-fn all_but_last(c: usize) -> usize
-    ensures { λ r. ⌜ r ≡ c - 7 ⌝ }
+// All of the records but the last ones.
+fn all_but_last(count: usize) -> usize
+    ensures { λ r. ⌜ r ≡ count - 7 ⌝ }
 {
-    if c < FOLLOWERS {
+    if count < FOLLOWERS {
         return 0;
     }
-    c - FOLLOWERS
+    count - FOLLOWERS
 }
 
 // Converts records as copy_records does, where the plan is one entry that is easy, and returns how many. None of them raises an exception.
 pub fn copy_single(
     src: &[u8],
     dst: &mut [u8],
-    c: usize,
-    s: usize,
-    d: usize,
+    count: usize,
+    source_size: usize,
+    destination_size: usize,
     plan: &[u32],
-    n: usize,
-    ws: &[u32],
-    wd: &[u32],
+    entries: usize,
+    source_half: &[u32],
+    destination_half: &[u32],
     words: &[u32],
 ) -> usize
-    requires { ⌜ Job s d (now plan) n (now ws) (now wd) (now words) × (c ≤ 65536) × (c * s ≤ length (now src)) × (c * d ≤ length (now dst)) ⌝ }
-    ensures { λ r. ⌜ (r ≤ c) × ((j : Job s d (now (plan .entry)) n (now (ws .entry)) (now (wd .entry)) (now (words .entry))) → Done (j .source) (j .destination) d c (now (src .entry)) (now (dst .entry)) r (now (dst .exit)) 0) ⌝ }
+    requires { ⌜ Job «source_size» «destination_size» (now plan) entries (now «source_half») (now «destination_half») (now words) × (count ≤ 65536) × (count * «source_size» ≤ length (now src)) × (count * «destination_size» ≤ length (now dst)) ⌝ }
+    ensures { λ r. ⌜ (r ≤ count) × ((j : Job «source_size» «destination_size» (now (plan .entry)) entries (now («source_half» .entry)) (now («destination_half» .entry)) (now (words .entry))) → Done (j .source) (j .destination) «destination_size» count (now (src .entry)) (now (dst .entry)) r (now (dst .exit)) 0) ⌝ }
 {
-    if n != 1 {
+    if entries != 1 {
         return 0;
     }
     let code = at(words, NAMES);
@@ -65,7 +65,21 @@ pub fn copy_single(
     let carry = carry_at(words, NAMES);
     let size = size_in(code);
     let into = order_in(code);
-    let k = all_but_last(c);
-    each_sized(src, dst, k, s, d, b, a, route, shift, p, carry, size, into);
+    let k = all_but_last(count);
+    each_sized(
+        src,
+        dst,
+        k,
+        source_size,
+        destination_size,
+        b,
+        a,
+        route,
+        shift,
+        p,
+        carry,
+        size,
+        into,
+    );
     k
 }

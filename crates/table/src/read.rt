@@ -25,49 +25,53 @@ use bits::BitAt;
 use bits::ByteAt;
 use layout::Layout;
 
-// Word k of the table.
-pub fn word(w: &[u32], k: usize) -> usize
-    ensures { λ r. ⌜ Reads (getD (now (w .entry)) k 0) r ⌝ }
+// The word at a place.
+pub fn word(words: &[u32], place: usize) -> usize
+    ensures { λ r. ⌜ Reads (getD (now (words .entry)) place 0) r ⌝ }
 {
-    if k < w.len() { w[k] as usize } else { 0 }
-}
-
-// Word q of the record of type i.
-pub fn type_word(w: &[u32], i: usize, q: usize) -> usize
-    requires { ⌜ q < 16 ⌝ }
-    ensures { λ r. ⌜ Reads (typeWord (now (w .entry)) i q) r ⌝ }
-{
-    if i < MOST_TYPES {
-        word(w, TYPE_WORDS * i + q)
+    if place < words.len() {
+        words[place] as usize
     } else {
         0
     }
 }
 
-// Word q of the record of row j.
-pub fn row_word(w: &[u32], j: usize, q: usize) -> usize
-    requires { ⌜ q < 8 ⌝ }
-    ensures { λ r. ⌜ Reads (rowWord (now (w .entry)) j q) r ⌝ }
+// The word at a place of a type's record.
+pub fn type_word(half: &[u32], type_number: usize, place: usize) -> usize
+    requires { ⌜ place < 16 ⌝ }
+    ensures { λ r. ⌜ Reads (typeWord (now (half .entry)) «type_number» place) r ⌝ }
 {
-    if j < MOST_ROWS {
-        word(w, ROWS_AT + ROW_WORDS * j + q)
+    if type_number < MOST_TYPES {
+        word(half, TYPE_WORDS * type_number + place)
     } else {
         0
     }
 }
 
-// The layout in the record of type i.
-pub fn layout_at(w: &[u32], i: usize) -> Layout
-    ensures { λ r. ⌜ (r ≡ layoutAt (now (w .entry)) i) × (r .size .0 < 4294967296) ⌝ }
+// The word at a place of a row's record.
+pub fn row_word(half: &[u32], row: usize, place: usize) -> usize
+    requires { ⌜ place < 8 ⌝ }
+    ensures { λ r. ⌜ Reads (rowWord (now (half .entry)) row place) r ⌝ }
 {
-    let class = class_of(type_word(w, i, CLASS));
-    let size = type_word(w, i, SIZE);
-    let order = order_of(type_word(w, i, ORDER));
-    let offset = type_word(w, i, OFFSET) as u32;
-    let precision = type_word(w, i, PRECISION) as u32;
-    let lsb = pad_of(type_word(w, i, LSB));
-    let msb = pad_of(type_word(w, i, MSB));
-    let signed = flag_of(type_word(w, i, SIGN));
+    if row < MOST_ROWS {
+        word(half, ROWS_AT + ROW_WORDS * row + place)
+    } else {
+        0
+    }
+}
+
+// The layout in a type's record.
+pub fn layout_at(half: &[u32], type_number: usize) -> Layout
+    ensures { λ r. ⌜ (r ≡ layoutAt (now (half .entry)) «type_number») × (r .size .0 < 4294967296) ⌝ }
+{
+    let class = class_of(type_word(half, type_number, CLASS));
+    let size = type_word(half, type_number, SIZE);
+    let order = order_of(type_word(half, type_number, ORDER));
+    let offset = type_word(half, type_number, OFFSET) as u32;
+    let precision = type_word(half, type_number, PRECISION) as u32;
+    let lsb = pad_of(type_word(half, type_number, LSB));
+    let msb = pad_of(type_word(half, type_number, MSB));
+    let signed = flag_of(type_word(half, type_number, SIGN));
     Layout {
         class,
         size: ByteAt(size),

@@ -13,23 +13,35 @@ pub enum Sheets {
     Destination(u32),
 }
 
-// The destination sheet, where the source's types stand in the first half: n of them.
-fn read_destination(ss: &[u8], ds: &[u8], table: &mut [u32], n: u32, m: u32) -> Sheets
-    requires { ⌜ SourceRead (now ss) (now table) n m ⌝ }
-    ensures { λ r. ⌜ SheetsRead (now (ss .entry)) (now (ds .entry)) (now (table .exit)) r ⌝ }
+// The destination sheet, where the source's types and rows stand in the first half.
+fn read_destination(
+    source_sheet: &[u8],
+    destination_sheet: &[u8],
+    table: &mut [u32],
+    types: u32,
+    rows: u32,
+) -> Sheets
+    requires { ⌜ SourceRead (now «source_sheet») (now table) types rows ⌝ }
+    ensures { λ r. ⌜ SheetsRead (now («source_sheet» .entry)) (now («destination_sheet» .entry)) (now (table .exit)) r ⌝ }
 {
-    match read_sheet(ds, &mut table[HALF..]) {
-        SheetRead::Types(k, _) => Sheets::Types((n - 1) as usize, (k - 1) as usize),
+    match read_sheet(destination_sheet, &mut table[HALF..]) {
+        SheetRead::Types(k, _) => Sheets::Types((types - 1) as usize, (k - 1) as usize),
         SheetRead::Faulty(line) => Sheets::Destination(line),
     }
 }
 
-pub fn read_sheets(ss: &[u8], ds: &[u8], table: &mut [u32]) -> Sheets
+pub fn read_sheets(source_sheet: &[u8], destination_sheet: &[u8], table: &mut [u32]) -> Sheets
     requires { ⌜ length (now table) ≡ 8192 ⌝ }
-    ensures { λ r. ⌜ SheetsRead (now (ss .entry)) (now (ds .entry)) (now (table .exit)) r ⌝ }
+    ensures { λ r. ⌜ SheetsRead (now («source_sheet» .entry)) (now («destination_sheet» .entry)) (now (table .exit)) r ⌝ }
 {
-    match read_sheet(ss, &mut table[..HALF]) {
-        SheetRead::Types(n, m) => read_destination(ss, ds, table, n, m),
+    match read_sheet(source_sheet, &mut table[..HALF]) {
+        SheetRead::Types(types, rows) => read_destination(
+            source_sheet,
+            destination_sheet,
+            table,
+            types,
+            rows,
+        ),
         SheetRead::Faulty(line) => Sheets::Source(line),
     }
 }

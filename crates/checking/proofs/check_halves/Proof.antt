@@ -7,7 +7,7 @@ use Rattle.conversion.proofs.Checking.{halves-both, halves-say}
 use Rattle.checking.proofs.check_halves.Statement.{statement}
 use Rattle.checking.proofs.check_halves.Tie as tie
 
-slice-aggregate-ws : tie.Need-slice-aggregate-ws
+slice-aggregate-ws : tie.Need-slice-aggregate-source-half
 slice-aggregate-ws c =
     let x = c .before .before .before .before in
     sym (length-take-le 4096 (x .args .table .now) (omega (arith, x .pre .1)))
@@ -15,12 +15,12 @@ slice-aggregate-ws c =
 check-types-requires : tie.Need-check-types-requires
 check-types-requires c κs =
     let x = c .before .before .before .before .before in
-    halves-both (x .args .in-place) (x .args .ss .now) (x .args .ds .now) (x .args .count) (x .args .out) (x .args .other) (x .args .table .now) _ _ (x .pre .0)
+    halves-both (x .args .in-place) (x .args .source-sheet .now) (x .args .destination-sheet .now) (x .args .count) (x .args .out) (x .args .other) (x .args .table .now) _ _ (x .pre .0)
 
 returns : tie.Need-returns
 returns c =
     let x = c .before .before .before .before .before .before in
-    halves-say (x .args .in-place) (x .args .ss .now) (x .args .ds .now) (x .args .count) (x .args .out) (x .args .other) (x .args .table .now) _ _ (x .pre .0) (c .check-types .result) (c .check-types .ensures)
+    halves-say (x .args .in-place) (x .args .source-sheet .now) (x .args .destination-sheet .now) (x .args .count) (x .args .out) (x .args .other) (x .args .table .now) _ _ (x .pre .0) (c .check-types .result) (c .check-types .ensures)
 
 pub check-halves-spec : {M : Type 1} → statement M
 check-halves-spec =

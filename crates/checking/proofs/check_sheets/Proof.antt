@@ -7,19 +7,19 @@ use Rattle.checking.proofs.check_sheets.Tie as tie
 check-halves-requires : tie.Need-check-halves-requires
 check-halves-requires c κs =
     let i = c .before .before in
-    types-of _ _ _ (i .before .before .before .before .read-sheets .ensures) (i .i .given .1)
+    types-of _ _ _ (i .before .before .before .before .read-sheets .ensures) (i .source-type .given .1)
 
 returns : tie.Need-returns
 returns c =
     let r = c .before .before .before .before .before in
     let a = r .before .before .before .before .before .args in
-    source-says (a .in-place) (a .ss .now) (a .ds .now) (a .count) (a .out) (a .other) _ (r .read-sheets .ensures) (c .before .line .given .1)
+    source-says (a .in-place) (a .source-sheet .now) (a .destination-sheet .now) (a .count) (a .out) (a .other) _ (r .read-sheets .ensures) (c .before .line .given .1)
 
 returns-2 : tie.Need-returns-2
 returns-2 c =
     let r = c .before .before .before .before .before in
     let a = r .before .before .before .before .before .args in
-    destination-says (a .in-place) (a .ss .now) (a .ds .now) (a .count) (a .out) (a .other) _ (r .read-sheets .ensures) (c .before .line2 .given .1)
+    destination-says (a .in-place) (a .source-sheet .now) (a .destination-sheet .now) (a .count) (a .out) (a .other) _ (r .read-sheets .ensures) (c .before .line2 .given .1)
 
 returns-3 : tie.Need-returns-3
 returns-3 c =

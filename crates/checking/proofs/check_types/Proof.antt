@@ -9,20 +9,20 @@ returns : tie.Need-returns
 returns c =
     let p = c .before in
     let x = p .before .before .before .before .before in
-    refuse-path (x .args .in-place) (x .args .ss .now) (x .args .ds .now) (x .args .count) (x .args .out) (x .args .other) (x .args .ws .now) (x .args .i) (x .args .wd .now) (x .args .k) (x .pre) (p .has-path .ensures) (c .if1 .taken)
+    refuse-path (x .args .in-place) (x .args .source-sheet .now) (x .args .destination-sheet .now) (x .args .count) (x .args .out) (x .args .other) (x .args .source-half .now) (x .args .source-type) (x .args .destination-half .now) (x .args .destination-type) (x .pre) (p .has-path .ensures) (c .if1 .taken)
 
 returns-2 : tie.Need-returns-2
 returns-2 c =
     let p = c .before .before in
     let x = p .before .before .before .before .before in
-    refuse-count (x .args .in-place) (x .args .ss .now) (x .args .ds .now) (x .args .count) (x .args .out) (x .args .other) (x .args .ws .now) (x .args .i) (x .args .wd .now) (x .args .k) (x .pre) (p .has-path .ensures) (c .before .if1 .left) (c .if2 .taken)
+    refuse-count (x .args .in-place) (x .args .source-sheet .now) (x .args .destination-sheet .now) (x .args .count) (x .args .out) (x .args .other) (x .args .source-half .now) (x .args .source-type) (x .args .destination-half .now) (x .args .destination-type) (x .pre) (p .has-path .ensures) (c .before .if1 .left) (c .if2 .taken)
 
 has-room-requires : tie.Need-has-room-requires
 has-room-requires c κs =
     let e = c .before .before in
     let p = e .before .before in
     let x = p .before .before .before .before .before in
-    sizes-fit (x .args .in-place) (x .args .ss .now) (x .args .ds .now) (x .args .count) (x .args .out) (x .args .other) (x .args .ws .now) (x .args .i) (x .args .wd .now) (x .args .k) (x .pre) (p .has-path .ensures) (e .before .if1 .left) (e .if2 .left) (c .before .type-word .ensures) (c .type-word2 .ensures)
+    sizes-fit (x .args .in-place) (x .args .source-sheet .now) (x .args .destination-sheet .now) (x .args .count) (x .args .out) (x .args .other) (x .args .source-half .now) (x .args .source-type) (x .args .destination-half .now) (x .args .destination-type) (x .pre) (p .has-path .ensures) (e .before .if1 .left) (e .if2 .left) (c .before .type-word .ensures) (c .type-word2 .ensures)
 
 returns-3 : tie.Need-returns-3
 returns-3 c =
@@ -30,7 +30,7 @@ returns-3 c =
     let e = r .before .before .before in
     let p = e .before .before in
     let x = p .before .before .before .before .before in
-    refuse-room (x .args .in-place) (x .args .ss .now) (x .args .ds .now) (x .args .count) (x .args .out) (x .args .other) (x .args .ws .now) (x .args .i) (x .args .wd .now) (x .args .k) (x .pre) (p .has-path .ensures) (e .before .if1 .left) (e .if2 .left) (r .before .before .type-word .ensures) (r .before .type-word2 .ensures) (r .has-room .ensures) (c .if3 .taken)
+    refuse-room (x .args .in-place) (x .args .source-sheet .now) (x .args .destination-sheet .now) (x .args .count) (x .args .out) (x .args .other) (x .args .source-half .now) (x .args .source-type) (x .args .destination-half .now) (x .args .destination-type) (x .pre) (p .has-path .ensures) (e .before .if1 .left) (e .if2 .left) (r .before .before .type-word .ensures) (r .before .type-word2 .ensures) (r .has-room .ensures) (c .if3 .taken)
 
 returns-4 : tie.Need-returns-4
 returns-4 c =
@@ -38,7 +38,7 @@ returns-4 c =
     let e = r .before .before .before in
     let p = e .before .before in
     let x = p .before .before .before .before .before in
-    pass-types (x .args .in-place) (x .args .ss .now) (x .args .ds .now) (x .args .count) (x .args .out) (x .args .other) (x .args .ws .now) (x .args .i) (x .args .wd .now) (x .args .k) (x .pre) (p .has-path .ensures) (e .before .if1 .left) (e .if2 .left) (r .before .before .type-word .ensures) (r .before .type-word2 .ensures) (r .has-room .ensures) (c .if3 .left)
+    pass-types (x .args .in-place) (x .args .source-sheet .now) (x .args .destination-sheet .now) (x .args .count) (x .args .out) (x .args .other) (x .args .source-half .now) (x .args .source-type) (x .args .destination-half .now) (x .args .destination-type) (x .pre) (p .has-path .ensures) (e .before .if1 .left) (e .if2 .left) (r .before .before .type-word .ensures) (r .before .type-word2 .ensures) (r .has-room .ensures) (c .if3 .left)
 
 pub check-types-spec : {M : Type 1} → statement M
 check-types-spec =

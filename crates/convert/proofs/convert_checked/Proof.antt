@@ -7,7 +7,7 @@ use Rattle.convert.proofs.Parts.{framed-asked, framed-left}
 use Rattle.convert.proofs.convert_checked.Statement.{statement}
 use Rattle.convert.proofs.convert_checked.Tie as tie
 
-slice-aggregate-ws : tie.Need-slice-aggregate-ws
+slice-aggregate-ws : tie.Need-slice-aggregate-source-half
 slice-aggregate-ws c =
     let x = c .before .before .before .before .before .before in
     sym (length-take-le 4096 (x .args .table .now) (omega (arith, x .pre .1)))
@@ -22,7 +22,7 @@ returns : tie.Need-returns
 returns c =
     let t = c .before .before .before .before in
     let x = t .before .before .before .before .before .before .before .before in
-    framed-left (x .args .ss .now) (x .args .ds .now) (x .args .count) (x .args .table .now) (x .args .i) (x .args .k) (t .if1 .taken) (x .args .handling) (x .args .out .now) (x .args .other .now) _ _ (c .before .before .replace-framed .ensures)
+    framed-left (x .args .source-sheet .now) (x .args .destination-sheet .now) (x .args .count) (x .args .table .now) (x .args .source-type) (x .args .destination-type) (t .if1 .taken) (x .args .handling) (x .args .out .now) (x .args .other .now) _ _ (c .before .before .replace-framed .ensures)
 
 copy-framed-requires : tie.Need-copy-framed-requires
 copy-framed-requires c κs =
@@ -34,7 +34,7 @@ returns-2 : tie.Need-returns-2
 returns-2 c =
     let t = c .before .before .before .before in
     let x = t .before .before .before .before .before .before .before .before in
-    framed-left (x .args .ss .now) (x .args .ds .now) (x .args .count) (x .args .table .now) (x .args .i) (x .args .k) (t .if1 .left) (x .args .handling) (x .args .out .now) (x .args .other .now) _ _ (c .before .before .copy-framed .ensures)
+    framed-left (x .args .source-sheet .now) (x .args .destination-sheet .now) (x .args .count) (x .args .table .now) (x .args .source-type) (x .args .destination-type) (t .if1 .left) (x .args .handling) (x .args .out .now) (x .args .other .now) _ _ (c .before .before .copy-framed .ensures)
 
 pub convert-checked-spec : {M : Type 1} → statement M
 convert-checked-spec =

@@ -9,13 +9,13 @@ convert-checked-requires c κs =
     let i = c .before .before .before in
     let s = i .before .before .before .before in
     let x = s .before .before .before .before .before .before .before in
-    (passes-are (x .args .in-place) (x .args .ss .now) (x .args .ds .now) (x .args .handling) (x .args .count) (x .args .out .now) (x .args .other .now) _ _ (s .check-sheets .ensures .0) (i .i .given .1), s .check-sheets .ensures .1, x .pre .0)
+    (passes-are (x .args .in-place) (x .args .source-sheet .now) (x .args .destination-sheet .now) (x .args .handling) (x .args .count) (x .args .out .now) (x .args .other .now) _ _ (s .check-sheets .ensures .0) (i .source-type .given .1), s .check-sheets .ensures .1, x .pre .0)
 
 returns : tie.Need-returns
 returns c =
     let s = c .before .before .before .before .before in
     let x = s .before .before .before .before .before .before .before in
-    refuse-left (x .args .in-place) (x .args .ss .now) (x .args .ds .now) (x .args .handling) (x .args .count) (x .args .out .now) (x .args .other .now) _ _ (s .check-sheets .ensures .0) _ (c .before .a .given .1)
+    refuse-left (x .args .in-place) (x .args .source-sheet .now) (x .args .destination-sheet .now) (x .args .handling) (x .args .count) (x .args .out .now) (x .args .other .now) _ _ (s .check-sheets .ensures .0) _ (c .before .a .given .1)
 
 returns-2 : tie.Need-returns-2
 returns-2 c =
@@ -23,7 +23,7 @@ returns-2 c =
     let i = call .before .before .before .before in
     let s = i .before .before .before .before in
     let x = s .before .before .before .before .before .before .before in
-    pass-left (x .args .in-place) (x .args .ss .now) (x .args .ds .now) (x .args .handling) (x .args .count) (x .args .out .now) (x .args .other .now) _ _ (s .check-sheets .ensures .0) (i .i .given .1) _ _ (call .convert-checked .ensures)
+    pass-left (x .args .in-place) (x .args .source-sheet .now) (x .args .destination-sheet .now) (x .args .handling) (x .args .count) (x .args .out .now) (x .args .other .now) _ _ (s .check-sheets .ensures .0) (i .source-type .given .1) _ _ (call .convert-checked .ensures)
 
 pub convert-within-spec : {M : Type 1} → statement M
 convert-within-spec =

@@ -12,13 +12,13 @@ returns c =
     let t = c .before .before .before .before in
     let a = t .before .before .before .before .before .before .before .args in
     λ j.
-    clamps (formOf (a .in-place)) (a .c) (sourceOf (a .in-place) (a .out .now) (a .other .now)) (backgroundOf (a .in-place) (a .out .now) (a .other .now)) (j .source) (j .destination) _ _ _
+    clamps (formOf (a .in-place)) (a .count) (sourceOf (a .in-place) (a .out .now) (a .other .now)) (backgroundOf (a .in-place) (a .out .now) (a .other .now)) (j .source) (j .destination) _ _ _
     (t .if1 .taken) (c .before .before .convert-records .ensures j)
 
 first-stop-requires : tie.Need-first-stop-requires
 first-stop-requires c κs =
     let x = c .before .before .before .before .before .before .before .before in
-    (x .args .d, x .pre .0, x .pre .1)
+    (x .args .destination-size, x .pre .0, x .pre .1)
 
 convert-records-requires-2 : tie.Need-convert-records-requires-2
 convert-records-requires-2 c κs =
@@ -33,7 +33,7 @@ returns-2 c =
     let a = x .args in
     λ j.
     rw (target-is (a .in-place) (a .out .now) (a .other .now)) at
-    (stops-at (formOf (a .in-place)) (a .c) (sourceOf (a .in-place) (a .out .now) (a .other .now)) (backgroundOf (a .in-place) (a .out .now) (a .other .now)) (j .source) (j .destination) (a .handling) (a .s)
+    (stops-at (formOf (a .in-place)) (a .count) (sourceOf (a .in-place) (a .out .now) (a .other .now)) (backgroundOf (a .in-place) (a .out .now) (a .other .now)) (j .source) (j .destination) (a .handling) (a .source-size)
     (omega (arith, t .if1 .left, x .pre .2)) (j .sourceSize) (stop .first-stop .result) (stop .first-stop .ensures _ j) (c .before .i .given .1))
 
 returns-3 : tie.Need-returns-3
@@ -44,7 +44,7 @@ returns-3 c =
     let x = t .before .before .before .before .before .before .before in
     let a = x .args in
     λ j.
-    goes-on (formOf (a .in-place)) (a .c) (sourceOf (a .in-place) (a .out .now) (a .other .now)) (backgroundOf (a .in-place) (a .out .now) (a .other .now)) (j .source) (j .destination) _ _
+    goes-on (formOf (a .in-place)) (a .count) (sourceOf (a .in-place) (a .out .now) (a .other .now)) (backgroundOf (a .in-place) (a .out .now) (a .other .now)) (j .source) (j .destination) _ _
     (omega (arith, t .if1 .left, x .pre .2)) (j .sourceSize) _ (stop .first-stop .ensures _ j) _ _ (told .enum-told .given .1) (c .before .before .convert-records2 .ensures j)
 
 pub convert-planned-spec : {M : Type 1} → statement M

@@ -15,7 +15,7 @@ returns : tie.Need-returns
 returns c =
     let t = c .before .before .before .before in
     let a = t .before .before .before .before .before .before .before .args in
-    λ j. converts-as (j .source) (j .destination) (a .c) (a .out .now) (a .other .now) _ _ (t .if1 .taken) (c .before .before .replace-records .ensures j)
+    λ j. converts-as (j .source) (j .destination) (a .count) (a .out .now) (a .other .now) _ _ (t .if1 .taken) (c .before .before .replace-records .ensures j)
 
 copy-records-requires : tie.Need-copy-records-requires
 copy-records-requires c κs =
@@ -28,7 +28,7 @@ returns-2 : tie.Need-returns-2
 returns-2 c =
     let t = c .before .before .before .before in
     let a = t .before .before .before .before .before .before .before .args in
-    λ j. converts-as (j .source) (j .destination) (a .c) (a .out .now) (a .other .now) _ _ (t .if1 .left) (c .before .before .copy-records .ensures j)
+    λ j. converts-as (j .source) (j .destination) (a .count) (a .out .now) (a .other .now) _ _ (t .if1 .left) (c .before .before .copy-records .ensures j)
 
 pub convert-records-spec : {M : Type 1} → statement M
 convert-records-spec =

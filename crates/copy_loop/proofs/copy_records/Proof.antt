@@ -24,10 +24,10 @@ abbrev μ-loop : tie.MeasureT-loop
 
 -- record i lies within both
 rows : (c : tie.In-loop Inv-loop μ-loop)
-    → (let a = c .before .before .before .before .before .before .before .before .before .before .before .before .args in let i = c .before .loop .i in (i * a .s + a .s ≤ a .c * a .s) × (i * a .d + a .d ≤ a .c * a .d))
+    → (let a = c .before .before .before .before .before .before .before .before .before .before .before .before .args in let i = c .before .loop .i in (i * a .source-size + a .source-size ≤ a .count * a .source-size) × (i * a .destination-size + a .destination-size ≤ a .count * a .destination-size))
 rows c =
     let a = c .before .before .before .before .before .before .before .before .before .before .before .before .args in
-    (row-within (a .s) (c .loop-test .taken), row-within (a .d) (c .loop-test .taken))
+    (row-within (a .source-size) (c .loop-test .taken), row-within (a .destination-size) (c .loop-test .taken))
 
 loop-holds : tie.Need-loop-holds Inv-loop μ-loop
 loop-holds c = (c .before .before .copy-single .ensures .0, refl, omega arith, λ j was same room done. done)
@@ -35,13 +35,13 @@ loop-holds c = (c .before .before .copy-single .ensures .0, refl, omega arith, �
 -- what the call for record i leaves, and counts
 called : (c : tie.After-write-record Inv-loop μ-loop)
     → (let a = c .before .before .before .before .before .before .before .before .before .before .before .before .before .before .before .args in let l = c .before .before .before .before .loop in
-    (j : Job (a .s) (a .d) (a .plan .now) (a .n) (a .ws .now) (a .wd .now) (a .words .now))
-    → (c .write-record .last .1 .0 ≡ recordBy j (take (a .s) (drop (l .i * a .s) (a .src .now))) (take (a .d) (drop (l .i * a .d) (l .dst))) ++ drop (a .d) (drop (l .i * a .d) (l .dst)))
-    × (c .write-record .result ≡ raisedOf j (take (a .s) (drop (l .i * a .s) (a .src .now)))))
+    (j : Job (a .source-size) (a .destination-size) (a .plan .now) (a .entries) (a .source-half .now) (a .destination-half .now) (a .words .now))
+    → (c .write-record .last .1 .0 ≡ recordBy j (take (a .source-size) (drop (l .i * a .source-size) (a .src .now))) (take (a .destination-size) (drop (l .i * a .destination-size) (l .dst))) ++ drop (a .destination-size) (drop (l .i * a .destination-size) (l .dst)))
+    × (c .write-record .result ≡ raisedOf j (take (a .source-size) (drop (l .i * a .source-size) (a .src .now)))))
 called c j =
     let a = c .before .before .before .before .before .before .before .before .before .before .before .before .before .before .before .args in
     let l = c .before .before .before .before .loop in
-    job-parts j (a .src .now) (l .dst) _ (l .i * a .s) (l .i * a .d) _ (omega (arith, rows (c .before .before .before))) (omega (arith, rows (c .before .before .before))) (c .write-record .ensures)
+    job-parts j (a .src .now) (l .dst) _ (l .i * a .source-size) (l .i * a .destination-size) _ (omega (arith, rows (c .before .before .before))) (omega (arith, rows (c .before .before .before))) (c .write-record .ensures)
 
 small : (c : tie.After-write-record Inv-loop μ-loop) → c .write-record .result ≤ 4096
 small c =
@@ -70,7 +70,7 @@ write-record-requires : tie.Need-write-record-requires Inv-loop μ-loop
 write-record-requires c κs =
     let a = c .before .before .before .before .before .before .before .before .before .before .before .before .before .before .args in
     let l = c .before .before .before in
-    ready (c .before .before .before .before .before .before .before .before .before .before .before .before .before .before .pre .0) (lent-room (l .loop .i * a .s) (a .s) (a .src .now) (omega (arith, rows (c .before .before)))) (lent-room (l .loop .i * a .d) (a .d) (l .loop .dst) (omega (arith, rows (c .before .before))))
+    ready (c .before .before .before .before .before .before .before .before .before .before .before .before .before .before .pre .0) (lent-room (l .loop .i * a .source-size) (a .source-size) (a .src .now) (omega (arith, rows (c .before .before)))) (lent-room (l .loop .i * a .destination-size) (a .destination-size) (l .loop .dst) (omega (arith, rows (c .before .before))))
 
 add-total : tie.Need-add-total Inv-loop μ-loop
 add-total c = omega (arith, small (c .before .before))
@@ -79,7 +79,7 @@ loop-again : tie.Need-loop-again Inv-loop μ-loop
 loop-again c =
     let a = c .before .before .before .before .before .before .before .before .before .before .before .before .before .before .before .before .before .args in
     let l = c .before .before .before .before .before .before in
-    (omega arith, lent-length (l .loop .i * a .d) (l .loop .dst) (c .before .before .write-record .last .1 .0) (omega (arith, rows (c .before .before .before .before .before))) (c .before .before .write-record .kept .1 .0) ∙ l .loop .inv .1, omega (arith, small (c .before .before)), λ j was same room done. turn (j .source) (j .destination) (j .sourceFormed) (j .destinationFormed) (a .s) (a .d) (j .sourceSize) (j .destinationSize) (a .c) (a .src .now) was room (l .loop .i) (l .loop .total) _ (l .loop .dst) _ (omega arith) (l .loop .inv .1 ∙ same) (l .loop .inv .3 j was same room done) (called (c .before .before) j))
+    (omega arith, lent-length (l .loop .i * a .destination-size) (l .loop .dst) (c .before .before .write-record .last .1 .0) (omega (arith, rows (c .before .before .before .before .before))) (c .before .before .write-record .kept .1 .0) ∙ l .loop .inv .1, omega (arith, small (c .before .before)), λ j was same room done. turn (j .source) (j .destination) (j .sourceFormed) (j .destinationFormed) (a .source-size) (a .destination-size) (j .sourceSize) (j .destinationSize) (a .count) (a .src .now) was room (l .loop .i) (l .loop .total) _ (l .loop .dst) _ (omega arith) (l .loop .inv .1 ∙ same) (l .loop .inv .3 j was same room done) (called (c .before .before) j))
 
 same-length : tie.Need-same-length Inv-loop μ-loop
 same-length c = c .before .loop .inv .1 ∙ c .before .before .before .before .copy-single .kept .1 .0
@@ -90,7 +90,7 @@ returns c =
     let a = top .args in
     let l = c .before in
     let call = l .before .before .before .copy-single in
-    λ j. finish (j .source) (j .destination) (j .sourceFormed) (j .destinationFormed) (a .s) (a .d) (j .sourceSize) (j .destinationSize) (a .c) (a .src .now) (a .dst .now) (top .pre .3) (l .loop .i) (l .loop .total) (l .loop .dst) (omega arith) (l .loop .inv .3 j (a .dst .now) (call .kept .1 .0) (top .pre .3) (call .ensures .1 j))
+    λ j. finish (j .source) (j .destination) (j .sourceFormed) (j .destinationFormed) (a .source-size) (a .destination-size) (j .sourceSize) (j .destinationSize) (a .count) (a .src .now) (a .dst .now) (top .pre .3) (l .loop .i) (l .loop .total) (l .loop .dst) (omega arith) (l .loop .inv .3 j (a .dst .now) (call .kept .1 .0) (top .pre .3) (call .ensures .1 j))
 
 pub copy-records-spec : {M : Type 1} → statement M
 copy-records-spec =

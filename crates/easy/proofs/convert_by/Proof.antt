@@ -18,7 +18,7 @@ raw-by-requires c κs =
 wide : (c : tie.After-raw-by) → (let a = c .before .before .before .args in c .raw-by .result + a .carry * (c .raw-by .result / 2 ^ (a .precision - 1)) < 18446744073709551616)
 wide c =
     let start = c .before .before .before in
-    wide-fits _ _ (start .pre .0 .2) (now (start .args .src)) (start .args .a) (start .pre .1) (bytes-of (now (start .args .src)) (λ i. omega (arith, c .before .before .shared-slice-known .given i))) (c .raw-by .ensures .0) (c .raw-by .ensures .1)
+    wide-fits _ _ (start .pre .0 .2) (now (start .args .src)) (start .args .source-byte) (start .pre .1) (bytes-of (now (start .args .src)) (λ i. omega (arith, c .before .before .shared-slice-known .given i))) (c .raw-by .ensures .0) (c .raw-by .ensures .1)
 
 mul-wide : tie.Need-mul-wide
 mul-wide c = omega (arith, wide c)
@@ -31,8 +31,8 @@ returns c =
     let t = c .before .before .before .before .before in
     let start = t .before .before .before in
     λ l m e fits.
-    leaf-is l m e (now (start .args .src)) (start .args .a) (start .pre .1) (bytes-of (now (start .args .src)) (λ i. omega (arith, t .before .before .shared-slice-known .given i)))
-    (t .raw-by .ensures .0) (t .raw-by .ensures .1) (start .args .b) (now (start .args .dst)) fits (bytes-of (now (start .args .dst)) (λ i. omega (arith, t .before .slice-known .given i)))
+    leaf-is l m e (now (start .args .src)) (start .args .source-byte) (start .pre .1) (bytes-of (now (start .args .src)) (λ i. omega (arith, t .before .before .shared-slice-known .given i)))
+    (t .raw-by .ensures .0) (t .raw-by .ensures .1) (start .args .destination-byte) (now (start .args .dst)) fits (bytes-of (now (start .args .dst)) (λ i. omega (arith, t .before .slice-known .given i)))
     (c .before .before .store .ensures ∙ rw (c .before .before .before .order-of .ensures))
 
 pub convert-by-spec : {M : Type 1} → statement M

@@ -10,12 +10,12 @@ use Rattle.easy.proofs.convert_easy.Tie as tie
 -- the numbers that were read
 read : (c : tie.After-order-in) (l m : Layout)
     → (let t = c .before .before .before .before in let f = t .before .before in let a = f .before .before .before .before .before .args in
-    EasyAt l m (now (a .w)) (a .k) → EasyBy l m (t .route-in .result) (c .before .before .before .shift-in .result) (c .before .before .precision-in .result) (f .carry-at .result) (c .before .size-in .result) (c .order-in .result))
+    EasyAt l m (now (a .words)) (a .place) → EasyBy l m (t .route-in .result) (c .before .before .before .shift-in .result) (c .before .before .precision-in .result) (f .carry-at .result) (c .before .size-in .result) (c .order-in .result))
 read c l m e =
     let t = c .before .before .before .before in
     let f = t .before .before in
     let a = f .before .before .before .before .before .args in
-    numbers-read l m (now (a .w)) (a .k) e (f .before .at .ensures) (t .route-in .ensures .0) (c .before .before .before .shift-in .ensures .0) (c .before .before .precision-in .ensures .0) (f .carry-at .ensures) (c .before .size-in .ensures .0) (c .order-in .ensures .0)
+    numbers-read l m (now (a .words)) (a .place) e (f .before .at .ensures) (t .route-in .ensures .0) (c .before .before .before .shift-in .ensures .0) (c .before .before .precision-in .ensures .0) (f .carry-at .ensures) (c .before .size-in .ensures .0) (c .order-in .ensures .0)
 
 convert-by-requires : tie.Need-convert-by-requires
 convert-by-requires c κs =

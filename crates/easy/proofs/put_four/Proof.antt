@@ -11,7 +11,7 @@ use Rattle.easy.proofs.put_four.Tie as tie
 returns : tie.Need-returns
 unfolding withWords
 returns c =
-    let k = c .args .k in
+    let k = c .args .place in
     let e2 : k + 1 + 1 ≡ k + 2 = omega arith in
     let e3 : k + 2 + 1 ≡ k + 3 = omega arith in
     rw (e2, e3)

@@ -65,8 +65,8 @@ loop-again c =
     let t = p .before .before .before .before .before .before in
     let l = t .before in
     let i = l .loop .inv in
-    let room : wordsPlace (l .loop .i) + 4 ≤ wordsPlace (l .before .before .before .before .before .before .before .args .n) = omega (arith, t .loop-test .taken) in
-    let put = p .put-next .ensures .0 (wordsPlace (l .before .before .before .before .before .before .before .args .n)) room (i .1) (i .5) in (
+    let room : wordsPlace (l .loop .i) + 4 ≤ wordsPlace (l .before .before .before .before .before .before .before .args .entries) = omega (arith, t .loop-test .taken) in
+    let put = p .put-next .ensures .0 (wordsPlace (l .before .before .before .before .before .before .before .args .entries)) room (i .1) (i .5) in (
       omega (arith, t .loop-test .taken),
       omega (arith, i .1, put .grows),
       omega (arith, p .put-next .ensures .1, put .long),

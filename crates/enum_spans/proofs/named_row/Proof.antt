@@ -11,14 +11,14 @@ cast-result : tie.Need-cast-result
 cast-result c =
     let f = c .before .before .before in
     let t = f .before .before .before in
-    let low = row-small _ _ _ _ (f .row-named .ensures) (c .before .row .given .1) (t .before .type-word .ensures) (t .type-word2 .ensures) (t .before .before .before .before .before .before .pre) in
+    let low = row-small _ _ _ _ (f .row-named .ensures) (c .before .found .given .1) (t .before .type-word .ensures) (t .type-word2 .ensures) (t .before .before .before .before .before .before .pre) in
     omega (arith, low)
 
 add-result : tie.Need-add-result
 add-result c =
     let f = c .before .before .before in
     let t = f .before .before .before in
-    let low = row-small _ _ _ _ (f .row-named .ensures) (c .before .row .given .1) (t .before .type-word .ensures) (t .type-word2 .ensures) (t .before .before .before .before .before .before .pre) in
+    let low = row-small _ _ _ _ (f .row-named .ensures) (c .before .found .given .1) (t .before .type-word .ensures) (t .type-word2 .ensures) (t .before .before .before .before .before .before .pre) in
     omega (arith, low)
 
 returns : tie.Need-returns
@@ -26,8 +26,8 @@ returns c =
     let f = c .before .before .before in
     let t = f .before .before .before in
     let a = t .before .before .before .before .before .before .args in
-    ap rowCode (sym (c .before .row .given .1))
-    ∙ named-code (a .ws .now) (a .ts .now) (a .wd .now) (a .td .now) (a .d) (a .j) (t .before .type-word .ensures) (t .type-word2 .ensures) (f .before .before .row-word .ensures) (f .before .row-word2 .ensures) (f .row-named .ensures)
+    ap rowCode (sym (c .before .found .given .1))
+    ∙ named-code (a .source-half .now) (a .source-sheet .now) (a .destination-half .now) (a .destination-sheet .now) (a .destination-type) (a .row) (t .before .type-word .ensures) (t .type-word2 .ensures) (f .before .before .row-word .ensures) (f .before .row-word2 .ensures) (f .row-named .ensures)
 
 returns-2 : tie.Need-returns-2
 returns-2 c =
@@ -35,7 +35,7 @@ returns-2 c =
     let t = f .before .before .before in
     let a = t .before .before .before .before .before .before .args in
     ap rowCode (sym (c .enum-told .given .1))
-    ∙ named-code (a .ws .now) (a .ts .now) (a .wd .now) (a .td .now) (a .d) (a .j) (t .before .type-word .ensures) (t .type-word2 .ensures) (f .before .before .row-word .ensures) (f .before .row-word2 .ensures) (f .row-named .ensures)
+    ∙ named-code (a .source-half .now) (a .source-sheet .now) (a .destination-half .now) (a .destination-sheet .now) (a .destination-type) (a .row) (t .before .type-word .ensures) (t .type-word2 .ensures) (f .before .before .row-word .ensures) (f .before .row-word2 .ensures) (f .row-named .ensures)
 
 pub named-row-spec : {M : Type 1} → statement M
 named-row-spec =

@@ -15,7 +15,7 @@ returns c =
     let n = c .before .before in
     let l = n .before .before .before in
     let a = l .before .before .args in
-    number-found (a .ws .now) (a .s) (a .raw) (n .number-of .result) (c .before .split .result) (n .before .before .type-word .ensures) (n .before .symbol-rows .ensures) (l .layout-at .ensures .0)
+    number-found (a .source-half .now) (a .source-type) (a .raw) (n .number-of .result) (c .before .split .result) (n .before .before .type-word .ensures) (n .before .symbol-rows .ensures) (l .layout-at .ensures .0)
     (n .number-of .ensures) (c .before .split .ensures) (c .row-numbered .ensures)
 
 pub number-row-spec : {M : Type 1} → statement M

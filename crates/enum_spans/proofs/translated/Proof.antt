@@ -9,13 +9,13 @@ returns : tie.Need-returns
 returns c =
     let n = c .before .before .before .before in
     let a = n .before .before .before .before .before .args in
-    c .named-row .ensures ∙ code-is (a .ws .now) (a .ts .now) (a .wd .now) (a .td .now) (a .s) (a .d) (a .raw) (n .number-row .ensures) (c .before .before .j .given .1)
+    c .named-row .ensures ∙ code-is (a .source-half .now) (a .source-sheet .now) (a .destination-half .now) (a .destination-sheet .now) (a .source-type) (a .destination-type) (a .raw) (n .number-row .ensures) (c .before .before .row .given .1)
 
 returns-2 : tie.Need-returns-2
 returns-2 c =
     let n = c .before .before in
     let a = n .before .before .before .before .before .args in
-    code-is (a .ws .now) (a .ts .now) (a .wd .now) (a .td .now) (a .s) (a .d) (a .raw) (n .number-row .ensures) (c .enum-told .given .1)
+    code-is (a .source-half .now) (a .source-sheet .now) (a .destination-half .now) (a .destination-sheet .now) (a .source-type) (a .destination-type) (a .raw) (n .number-row .ensures) (c .enum-told .given .1)
 
 pub translated-spec : {M : Type 1} → statement M
 translated-spec =

@@ -21,7 +21,7 @@ abbrev μ-loop : tie.MeasureT-loop
 loop-holds : tie.Need-loop-holds Inv-loop μ-loop
 loop-holds c =
     let a = c .before .before .before .before .before .before .args in
-    (omega arith, refl, refl, omega arith, λ j. down-start (j .source) (j .destination) (j .sourceFormed) (j .destinationFormed) (a .s) (a .d) (j .sourceSize) (j .destinationSize) (a .c) (a .buf .now) (a .background .now) (omega arith) (omega arith))
+    (omega arith, refl, refl, omega arith, λ j. down-start (j .source) (j .destination) (j .sourceFormed) (j .destinationFormed) (a .source-size) (a .destination-size) (j .sourceSize) (j .destinationSize) (a .count) (a .buf .now) (a .background .now) (omega arith) (omega arith))
 
 -- the call for a record counts no more than it has bytes
 small : (c : tie.After-replace-record Inv-loop μ-loop) → c .replace-record .result ≤ 4096
@@ -29,19 +29,19 @@ small c =
     let a = c .before .before .before .before .before .before .before .before .before .before .before .args in
     let l = c .before .before .before .before .loop in
     let j = c .before .before .before .before .before .before .before .before .before .before .before .pre .0 in
-    rw (c .replace-record .ensures j .1) (raised-small j (take (a .s) (drop ((l .i - 1) * a .s) (l .buf))))
+    rw (c .replace-record .ensures j .1) (raised-small j (take (a .source-size) (drop ((l .i - 1) * a .source-size) (l .buf))))
 
 replace-record-requires : tie.Need-replace-record-requires Inv-loop μ-loop
 replace-record-requires c κs =
     let i = c .before .before .before .loop .i - 1 in
     let start = c .before .before .before .before .before .before .before .before .before .before in
     let a = start .args in
-    let hs : a .s ≤ a .d = omega arith in
-    let hi : i < a .c = omega arith in (
+    let hs : a .source-size ≤ a .destination-size = omega arith in
+    let hi : i < a .count = omega arith in (
       start .pre .0,
-      omega (arith, row-within (a .d) hi, mul-le-mul-left i hs),
-      omega (arith, row-within (a .d) hi),
-      omega (arith, row-within (a .d) hi),
+      omega (arith, row-within (a .destination-size) hi, mul-le-mul-left i hs),
+      omega (arith, row-within (a .destination-size) hi),
+      omega (arith, row-within (a .destination-size) hi),
       omega (arith, source-most (start .pre .0)),
     )
 
@@ -59,7 +59,7 @@ loop-again c =
       o .kept .1 .1 .0 ∙ l .inv .2,
       omega (arith, small (c .before .before .before)),
       λ j.
-          down-turn (j .source) (j .destination) (j .sourceFormed) (j .destinationFormed) (a .s) (a .d) (j .sourceSize) (j .destinationSize) (a .c) (a .buf .now)
+          down-turn (j .source) (j .destination) (j .sourceFormed) (j .destinationFormed) (a .source-size) (a .destination-size) (j .sourceSize) (j .destinationSize) (a .count) (a .buf .now)
           (a .background .now) (omega arith) (l .i - 1) (l .total) _ (l .buf) _ (omega arith) (omega arith) (omega arith) (l .inv .1) (rw e at (l .inv .4 j)) (o .ensures j),
     )
 
@@ -71,7 +71,7 @@ returns c =
     let a = c .before .before .before .before .before .before .before .before .args in
     let l = c .before .loop in
     let end : l .i ≡ 0 = omega arith in
-    λ j. down-end (j .source) (j .destination) (j .sourceFormed) (j .destinationFormed) (a .s) (a .d) (j .sourceSize) (j .destinationSize) (a .c) (a .buf .now) (a .background .now) (omega arith) (l .buf) (l .total) (rw end at (l .inv .4 j))
+    λ j. down-end (j .source) (j .destination) (j .sourceFormed) (j .destinationFormed) (a .source-size) (a .destination-size) (j .sourceSize) (j .destinationSize) (a .count) (a .buf .now) (a .background .now) (omega arith) (l .buf) (l .total) (rw end at (l .inv .4 j))
 
 pub replace-down-spec : {M : Type 1} → statement M
 replace-down-spec =

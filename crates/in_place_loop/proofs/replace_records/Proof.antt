@@ -7,13 +7,13 @@ use Rattle.in_place_loop.proofs.replace_records.Statement.{statement}
 use Rattle.in_place_loop.proofs.replace_records.Tie as tie
 
 sub-clear-bytes-2 : tie.Need-sub-clear-bytes-2
-sub-clear-bytes-2 c = mul-le-mul-left (c .before .before .before .before .before .before .before .before .before .before .before .before .args .c) (omega arith)
+sub-clear-bytes-2 c = mul-le-mul-left (c .before .before .before .before .before .before .before .before .before .before .before .before .args .count) (omega arith)
 
 returns-2 : tie.Need-returns-2
 returns-2 c =
     let a = c .before .before .before .before .before .before .before .before .before .before .before .before .before .before .before .args in
     let u = c .before .before .before .before .before .before .replace-up in
-    λ j. (cleared (j .source) (j .destination) (j .sourceFormed) (j .destinationFormed) (a .s) (a .d) (j .sourceSize) (j .destinationSize) (a .c) (a .buf .now) (a .background .now) (omega arith) _ _ (omega arith) (u .ensures j .0) (u .ensures j .1) (c .before .before .clear-bytes .ensures), u .ensures j .2)
+    λ j. (cleared (j .source) (j .destination) (j .sourceFormed) (j .destinationFormed) (a .source-size) (a .destination-size) (j .sourceSize) (j .destinationSize) (a .count) (a .buf .now) (a .background .now) (omega arith) _ _ (omega arith) (u .ensures j .0) (u .ensures j .1) (c .before .before .clear-bytes .ensures), u .ensures j .2)
 
 pub replace-records-spec : {M : Type 1} → statement M
 replace-records-spec =

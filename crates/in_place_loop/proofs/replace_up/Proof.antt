@@ -21,7 +21,7 @@ abbrev μ-loop : tie.MeasureT-loop
 loop-holds : tie.Need-loop-holds Inv-loop μ-loop
 loop-holds c =
     let a = c .before .before .before .before .before .before .args in
-    (omega arith, refl, refl, omega arith, λ j. up-start (j .source) (j .destination) (a .s) (a .d) (a .c) (a .buf .now) (a .background .now))
+    (omega arith, refl, refl, omega arith, λ j. up-start (j .source) (j .destination) (a .source-size) (a .destination-size) (a .count) (a .buf .now) (a .background .now))
 
 -- the call for a record counts no more than it has bytes
 small : (c : tie.After-replace-record Inv-loop μ-loop) → c .replace-record .result ≤ 4096
@@ -29,19 +29,19 @@ small c =
     let a = c .before .before .before .before .before .before .before .before .before .before .before .args in
     let l = c .before .before .before .before .loop in
     let j = c .before .before .before .before .before .before .before .before .before .before .before .pre .0 in
-    rw (c .replace-record .ensures j .1) (raised-small j (take (a .s) (drop (l .i * a .s) (l .buf))))
+    rw (c .replace-record .ensures j .1) (raised-small j (take (a .source-size) (drop (l .i * a .source-size) (l .buf))))
 
 replace-record-requires : tie.Need-replace-record-requires Inv-loop μ-loop
 replace-record-requires c κs =
     let l = c .before .before .before .loop in
     let start = c .before .before .before .before .before .before .before .before .before .before in
     let a = start .args in
-    let hd : a .d ≤ a .s = omega arith in
-    let hi : l .i < a .c = omega arith in (
+    let hd : a .destination-size ≤ a .source-size = omega arith in
+    let hi : l .i < a .count = omega arith in (
       start .pre .0,
-      omega (arith, row-within (a .s) hi),
-      omega (arith, row-within (a .s) hi, mul-le-mul-left (l .i) hd),
-      omega (arith, row-within (a .d) hi),
+      omega (arith, row-within (a .source-size) hi),
+      omega (arith, row-within (a .source-size) hi, mul-le-mul-left (l .i) hd),
+      omega (arith, row-within (a .destination-size) hi),
       omega (arith, source-most (start .pre .0)),
     )
 
@@ -58,7 +58,7 @@ loop-again c =
       o .kept .1 .1 .0 ∙ l .inv .2,
       omega (arith, small (c .before .before .before)),
       λ j.
-          up-turn (j .source) (j .destination) (j .sourceFormed) (j .destinationFormed) (a .s) (a .d) (j .sourceSize) (j .destinationSize) (a .c) (a .buf .now)
+          up-turn (j .source) (j .destination) (j .sourceFormed) (j .destinationFormed) (a .source-size) (a .destination-size) (j .sourceSize) (j .destinationSize) (a .count) (a .buf .now)
           (a .background .now) (omega arith) (l .i) (l .total) _ (l .buf) _ (omega arith) (omega arith) (omega arith) (l .inv .1) (l .inv .4 j) (o .ensures j),
     )
 
@@ -68,7 +68,7 @@ same-length c = c .before .loop .inv .1
 returns : tie.Need-returns Inv-loop μ-loop
 returns c =
     let l = c .before .loop in
-    let end : l .i ≡ c .before .before .before .before .before .before .before .before .args .c = omega arith in
+    let end : l .i ≡ c .before .before .before .before .before .before .before .before .args .count = omega arith in
     λ j. rw end at (l .inv .4 j)
 
 pub replace-up-spec : {M : Type 1} → statement M

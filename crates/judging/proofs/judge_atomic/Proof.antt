@@ -19,7 +19,7 @@ atomic-record-requires c κs =
 returns-2 : tie.Need-returns-2
 returns-2 c =
     let s = c .before .before .before .before .before .before .before .before .before in
-    atomic-judged (s .args .t .now) (s .args .l) (s .pre) (c .before .before .before .before .before .before .is-valid .ensures) (c .before .before .before .before .before .if1 .left) (c .before .before .before .atomic-record .ensures) (c .before .before .next-type .ensures)
+    atomic-judged (s .args .sheet .now) (s .args .l) (s .pre) (c .before .before .before .before .before .before .is-valid .ensures) (c .before .before .before .before .before .if1 .left) (c .before .before .before .atomic-record .ensures) (c .before .before .next-type .ensures)
 
 pub judge-atomic-spec : {M : Type 1} → statement M
 judge-atomic-spec =

@@ -10,32 +10,32 @@ use Rattle.judging.proofs.judge_member.Tie as tie
 returns : tie.Need-returns
 returns c =
     let a = c .before .before .before .args in
-    refused (c .before .before .before .pre .0) (member-first (a .w .now) (a .t .now) _ (bytesAt (a .t .now) (a .start) (a .len)) (a .offset) (a .kind) (c .if1 .taken))
+    refused (c .before .before .before .pre .0) (member-first (a .half .now) (a .sheet .now) _ (bytesAt (a .sheet .now) (a .start) (a .len)) (a .offset) (a .kind) (c .if1 .taken))
 
 returns-2 : tie.Need-returns-2
 returns-2 c =
     let a = c .before .before .before .before .args in
     refused (c .before .before .before .before .pre .0)
-    (member-late (a .n) (a .t .now) (bytesAt (a .t .now) (a .start) (a .len)) (a .offset) (a .kind) (c .before .before .before .before .pre .0) (c .before .if1 .left) (c .if2 .taken))
+    (member-late (a .types) (a .sheet .now) (bytesAt (a .sheet .now) (a .start) (a .len)) (a .offset) (a .kind) (c .before .before .before .before .pre .0) (c .before .if1 .left) (c .if2 .taken))
 
 returns-3 : tie.Need-returns-3
 returns-3 c =
     let a = c .before .before .before .before .before .before .before .args in
     refused (c .before .before .before .before .before .before .before .pre .0)
-    (member-other (a .n) (a .t .now) (bytesAt (a .t .now) (a .start) (a .len)) (a .offset) (a .kind) (c .before .before .before .before .before .before .before .pre .0) (c .before .before .before .before .if1 .left) (c .before .before .before .if2 .left)
+    (member-other (a .types) (a .sheet .now) (bytesAt (a .sheet .now) (a .start) (a .len)) (a .offset) (a .kind) (c .before .before .before .before .before .before .before .pre .0) (c .before .before .before .before .if1 .left) (c .before .before .before .if2 .left)
     (λ e. c .if3 .taken (c .before .type-word .ensures .is ∙ e)))
 
 returns-4 : tie.Need-returns-4
 returns-4 c =
     let a = c .before .before .before .before .before .before .before .before .before .before .before .before .args in
     refused (c .before .before .before .before .before .before .before .before .before .before .before .before .pre .0)
-    (member-refused (a .n) (a .t .now) (bytesAt (a .t .now) (a .start) (a .len)) (a .offset) (a .kind) (c .before .before .before .before .before .before .before .before .before .before .before .before .pre .0) (c .before .before .before .before .before .before .before .before .before .if1 .left) (c .before .before .before .before .before .before .before .before .if2 .left)
+    (member-refused (a .types) (a .sheet .now) (bytesAt (a .sheet .now) (a .start) (a .len)) (a .offset) (a .kind) (c .before .before .before .before .before .before .before .before .before .before .before .before .pre .0) (c .before .before .before .before .before .before .before .before .before .if1 .left) (c .before .before .before .before .before .before .before .before .if2 .left)
     (sym (c .before .before .before .before .before .before .type-word .ensures .is) ∙ c .before .before .before .before .before .if3 .left) (c .before .before .before .type-word2 .ensures .is) (c .before .may-place .ensures) (c .if4 .taken))
 
 returns-5 : tie.Need-returns-5
 returns-5 c =
     let a = c .before .before .before .before .before .before .before .before .before .before .before .before .before .before .before .before .before .args in
-    member-judged (a .n) (a .t .now) (a .start) (a .len) (a .offset) (a .kind) (c .before .before .before .before .before .before .before .before .before .before .before .before .before .before .before .before .before .pre .0) (c .before .before .before .before .before .before .before .before .before .before .before .before .before .before .if1 .left) (c .before .before .before .before .before .before .before .before .before .before .before .before .before .if2 .left)
+    member-judged (a .types) (a .sheet .now) (a .start) (a .len) (a .offset) (a .kind) (c .before .before .before .before .before .before .before .before .before .before .before .before .before .before .before .before .before .pre .0) (c .before .before .before .before .before .before .before .before .before .before .before .before .before .before .if1 .left) (c .before .before .before .before .before .before .before .before .before .before .before .before .before .if2 .left)
     (sym (c .before .before .before .before .before .before .before .before .before .before .before .type-word .ensures .is) ∙ c .before .before .before .before .before .before .before .before .before .before .if3 .left) (c .before .before .before .before .before .before .before .before .type-word2 .ensures .is) (c .before .before .before .before .before .before .may-place .ensures) (c .before .before .before .before .before .if4 .left)
     (c .before .before .before .before .member-record .ensures) (c .before .before .next-row .ensures)
 

@@ -11,26 +11,26 @@ use Rattle.judging.proofs.judge_value.Tie as tie
 returns : tie.Need-returns
 returns c =
     let a = c .before .before .before .args in
-    refused (c .before .before .before .pre .0) (value-first (a .w .now) (a .t .now) _ (bytesAt (a .t .now) (a .start) (a .len)) (signedBy (a .negative) (a .distance)) (c .if1 .taken))
+    refused (c .before .before .before .pre .0) (value-first (a .half .now) (a .sheet .now) _ (bytesAt (a .sheet .now) (a .start) (a .len)) (signedBy (a .negative) (a .distance)) (c .if1 .taken))
 
 returns-2 : tie.Need-returns-2
 returns-2 c =
     let a = c .before .before .before .before .before .before .args in
     refused (c .before .before .before .before .before .before .pre .0)
-    (value-other (a .n) (a .t .now) (bytesAt (a .t .now) (a .start) (a .len)) (signedBy (a .negative) (a .distance)) (c .before .before .before .before .before .before .pre .0) (c .before .before .before .if1 .left)
+    (value-other (a .types) (a .sheet .now) (bytesAt (a .sheet .now) (a .start) (a .len)) (signedBy (a .negative) (a .distance)) (c .before .before .before .before .before .before .pre .0) (c .before .before .before .if1 .left)
     (λ e. c .if2 .taken (c .before .type-word .ensures .is ∙ e)))
 
 returns-3 : tie.Need-returns-3
 returns-3 c =
     let a = c .before .before .before .before .before .before .before .before .before .args in
     refused (c .before .before .before .before .before .before .before .before .before .pre .0)
-    (value-refused (a .n) (a .t .now) (bytesAt (a .t .now) (a .start) (a .len)) (signedBy (a .negative) (a .distance)) (c .before .before .before .before .before .before .before .before .before .pre .0) (c .before .before .before .before .before .before .if1 .left)
+    (value-refused (a .types) (a .sheet .now) (bytesAt (a .sheet .now) (a .start) (a .len)) (signedBy (a .negative) (a .distance)) (c .before .before .before .before .before .before .before .before .before .pre .0) (c .before .before .before .before .before .before .if1 .left)
     (sym (c .before .before .before .before .type-word .ensures .is) ∙ c .before .before .before .if2 .left) (c .before .may-list .ensures) (c .if3 .taken))
 
 returns-4 : tie.Need-returns-4
 returns-4 c =
     let a = c .before .before .before .before .before .before .before .before .before .before .before .before .before .before .args in
-    value-judged (a .n) (a .t .now) (a .start) (a .len) (a .negative) (a .distance) (c .before .before .before .before .before .before .before .before .before .before .before .before .before .before .pre .0) (c .before .before .before .before .before .before .before .before .before .before .before .if1 .left)
+    value-judged (a .types) (a .sheet .now) (a .start) (a .len) (a .negative) (a .distance) (c .before .before .before .before .before .before .before .before .before .before .before .before .before .before .pre .0) (c .before .before .before .before .before .before .before .before .before .before .before .if1 .left)
     (sym (c .before .before .before .before .before .before .before .before .before .type-word .ensures .is) ∙ c .before .before .before .before .before .before .before .before .if2 .left) (c .before .before .before .before .before .before .may-list .ensures) (c .before .before .before .before .before .if3 .left)
     (c .before .before .before .before .value-record .ensures) (c .before .before .next-row .ensures)
 

@@ -16,7 +16,7 @@ add-row-requires : tie.Need-add-row-requires
 add-row-requires c κs =
     let s = c .before .before .before in
     let h = s .pre .0 in
-    (omega (arith, h .types), omega arith, h .words, omega (arith, h .low (s .args .n - 1) (omega arith) .room, h .rows))
+    (omega (arith, h .types), omega arith, h .words, omega (arith, h .low (s .args .types - 1) (omega arith) .room, h .rows))
 
 returns-2 : tie.Need-returns-2
 returns-2 c =

@@ -12,7 +12,7 @@ returns : tie.Need-returns
 returns c =
     let a = c .before .before .before .before .before .before .args in
     c .same-name .ensures
-    ∙ ap₂ (λ (s n : ℕ). same (bytesAt (now (a .x)) (a .start) (a .len)) (bytesAt (now (a .t)) s n)) (c .before .before .row-word .ensures .is) (c .before .row-word2 .ensures .is)
+    ∙ ap₂ (λ (s n : ℕ). same (bytesAt (now (a .x)) (a .start) (a .len)) (bytesAt (now (a .sheet)) s n)) (c .before .before .row-word .ensures .is) (c .before .row-word2 .ensures .is)
 
 pub has-name-spec : {M : Type 1} → statement M
 has-name-spec = tie.close (tie.spec (λ c κs. search needs) (λ c κs. search needs) (λ c κs. search needs) returns)

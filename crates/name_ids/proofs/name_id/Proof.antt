@@ -14,17 +14,17 @@ row-word-requires-2 c κs = search needs
 row-named-requires : tie.Need-row-named-requires
 row-named-requires c κs = search needs
 
-enum-known-row : tie.Need-enum-known-row
+enum-known-row : tie.Need-enum-known-found
 enum-known-row c = search needs
 
 cast-result : tie.Need-cast-result
 cast-result c =
-    let low = id-small _ _ _ _ (c .before .before .before .row-named .ensures) (c .before .row .given .1) (search needs) in
+    let low = id-small _ _ _ _ (c .before .before .before .row-named .ensures) (c .before .found .given .1) (search needs) in
     omega (arith, low)
 
 add-result : tie.Need-add-result
 add-result c =
-    let low = id-small _ _ _ _ (c .before .before .before .row-named .ensures) (c .before .row .given .1) (search needs) in
+    let low = id-small _ _ _ _ (c .before .before .before .row-named .ensures) (c .before .found .given .1) (search needs) in
     omega (arith, low)
 
 enum-told : tie.Need-enum-told
@@ -34,13 +34,13 @@ returns : tie.Need-returns
 returns c =
     let f = c .before .before .before in
     let a = f .before .before .before .before .before .before .before .args in
-    id-read (a .w .now) (a .t .now) (a .j) _ _ _ (f .before .before .row-word .ensures) (f .before .row-word2 .ensures) (f .row-named .ensures) (c .before .row .given .1)
+    id-read (a .half .now) (a .sheet .now) (a .row) _ _ _ (f .before .before .row-word .ensures) (f .before .row-word2 .ensures) (f .row-named .ensures) (c .before .found .given .1)
 
 returns-2 : tie.Need-returns-2
 returns-2 c =
     let f = c .before .before in
     let a = f .before .before .before .before .before .before .before .args in
-    id-read (a .w .now) (a .t .now) (a .j) _ _ _ (f .before .before .row-word .ensures) (f .before .row-word2 .ensures) (f .row-named .ensures) (c .enum-told .given .1)
+    id-read (a .half .now) (a .sheet .now) (a .row) _ _ _ (f .before .before .row-word .ensures) (f .before .row-word2 .ensures) (f .row-named .ensures) (c .enum-told .given .1)
 
 pub name-id-spec : {M : Type 1} → statement M
 name-id-spec =

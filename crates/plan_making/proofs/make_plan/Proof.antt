@@ -13,14 +13,14 @@ put-entries-requires : tie.Need-put-entries-requires
 put-entries-requires c κs =
     let p = c .before .before .before .before in
     let x = p .before .before .before .before .before .before .before .before in
-    entries-asked (x .args .ss .now) (x .args .ws .now) (x .args .i) (x .args .ds .now) (x .args .wd .now) (x .args .k) (x .pre .0) (x .args .plan .now) _ _ (p .plan .ensures) (x .args .words .now) (x .pre .1)
+    entries-asked (x .args .source-sheet .now) (x .args .source-half .now) (x .args .source-type) (x .args .destination-sheet .now) (x .args .destination-half .now) (x .args .destination-type) (x .pre .0) (x .args .plan .now) _ _ (p .plan .ensures) (x .args .words .now) (x .pre .1)
 
 put-names-requires : tie.Need-put-names-requires
 put-names-requires c κs =
     let e = c .before .before .before in
     let p = e .before .before .before .before .before in
     let x = p .before .before .before .before .before .before .before .before in
-    names-asked (x .args .ss .now) (x .args .ws .now) (x .args .i) (x .args .ds .now) (x .args .wd .now) (x .args .k) (x .pre .0) (x .args .plan .now) _ _ (p .plan .ensures) (x .args .words .now) (x .pre .1) _ (e .put-entries .ensures)
+    names-asked (x .args .source-sheet .now) (x .args .source-half .now) (x .args .source-type) (x .args .destination-sheet .now) (x .args .destination-half .now) (x .args .destination-type) (x .pre .0) (x .args .plan .now) _ _ (p .plan .ensures) (x .args .words .now) (x .pre .1) _ (e .put-entries .ensures)
 
 returns : tie.Need-returns
 returns c =
@@ -28,7 +28,7 @@ returns c =
     let e = m .before .before .before .before in
     let p = e .before .before .before .before .before in
     let x = p .before .before .before .before .before .before .before .before in
-    plan-made (x .args .ss .now) (x .args .ws .now) (x .args .i) (x .args .ds .now) (x .args .wd .now) (x .args .k) (x .pre .0) (x .args .plan .now) _ _ (p .plan .ensures) (x .args .words .now) (x .pre .1) _ (e .put-entries .ensures) _ (m .put-names .ensures)
+    plan-made (x .args .source-sheet .now) (x .args .source-half .now) (x .args .source-type) (x .args .destination-sheet .now) (x .args .destination-half .now) (x .args .destination-type) (x .pre .0) (x .args .plan .now) _ _ (p .plan .ensures) (x .args .words .now) (x .pre .1) _ (e .put-entries .ensures) _ (m .put-names .ensures)
 
 pub make-plan-spec : {M : Type 1} → statement M
 make-plan-spec =

@@ -11,7 +11,7 @@ Inv-loop ws ts i wd td k plan₀ bytes n₀ b₀ plan n b = Filled ws ts i wd td
 abbrev μ-loop : tie.MeasureT-loop
 μ-loop ws ts i wd td k plan₀ bytes n₀ b₀ plan n b = bytes - b
 
-add-b : tie.Need-add-b Inv-loop μ-loop
+add-b : tie.Need-add-destination-byte Inv-loop μ-loop
 add-b c =
     let m = c .before .before .before .before .before in
     let pre = m .before .before .before .before .before .before .before .before .before .pre in

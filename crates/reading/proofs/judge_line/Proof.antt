@@ -80,7 +80,7 @@ returns-3 c =
     let l = c .before .before .before .before .before .line3 .given in
     let start = c .before .before .before .before .before .before .before .before .before .before in
     let h = value-inside _ _ (start .pre .1) (l .1) in
-    rw (l .1, ← (name-bytes (now (start .args .t)) (l .0 .0) (l .0 .1 .0 - l .0 .0) (omega arith))) (c .before .before .judge-value .ensures)
+    rw (l .1, ← (name-bytes (now (start .args .sheet)) (l .0 .0) (l .0 .1 .0 - l .0 .0) (omega arith))) (c .before .before .judge-value .ensures)
 
 same-length-4 : tie.Need-same-length-4
 same-length-4 c = search needs
@@ -96,7 +96,7 @@ returns-5 c =
     let l = c .before .before .before .before .before .line5 .given in
     let start = c .before .before .before .before .before .before .before .before .before .before in
     let h = member-inside _ _ (start .pre .1) (l .1) in
-    rw (l .1, ← (name-bytes (now (start .args .t)) (l .0 .0) (l .0 .1 .0 - l .0 .0) (omega arith))) (c .before .before .judge-member .ensures)
+    rw (l .1, ← (name-bytes (now (start .args .sheet)) (l .0 .0) (l .0 .1 .0 - l .0 .0) (omega arith))) (c .before .before .judge-member .ensures)
 
 same-length-6 : tie.Need-same-length-6
 same-length-6 c = search needs

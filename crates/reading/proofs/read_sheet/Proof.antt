@@ -11,7 +11,7 @@ returns c = too-long _ _ (c .before .before .before .pre) (c .if1 .taken)
 read-lines-requires : tie.Need-read-lines-requires
 read-lines-requires c κs = search needs
 
-enum-known-n : tie.Need-enum-known-n
+enum-known-n : tie.Need-enum-known-types
 enum-known-n c = search needs
 
 cast-clear-types : tie.Need-cast-clear-types
@@ -19,7 +19,7 @@ cast-clear-types c = search needs
 
 clear-types-requires : tie.Need-clear-types-requires
 clear-types-requires c κs =
-    let s = stood _ _ _ (omega arith) (c .before .before .before .before .before .before .read-lines .ensures) _ _ (c .before .before .n .given .1) in
+    let s = stood _ _ _ (omega arith) (c .before .before .before .before .before .before .read-lines .ensures) _ _ (c .before .before .types .given .1) in
     (s .holds .types, s .holds .words)
 
 enum-known-k : tie.Need-enum-known-k
@@ -30,7 +30,7 @@ same-length c = search needs
 
 returns-2 : tie.Need-returns-2
 returns-2 c =
-    rw (c .before .before .clear-types .ensures) (read-types _ _ _ (omega arith) (c .before .before .before .before .before .before .before .before .before .read-lines .ensures) _ _ (c .before .before .before .before .before .n .given .1))
+    rw (c .before .before .clear-types .ensures) (read-types _ _ _ (omega arith) (c .before .before .before .before .before .before .before .before .before .read-lines .ensures) _ _ (c .before .before .before .before .before .types .given .1))
 
 same-length-2 : tie.Need-same-length-2
 same-length-2 c = search needs

@@ -13,7 +13,7 @@ symbol-rows-requires c κs = search needs
 row-numbered-requires : tie.Need-row-numbered-requires
 row-numbered-requires c κs = search needs
 
-enum-known-j : tie.Need-enum-known-j
+enum-known-j : tie.Need-enum-known-row
 enum-known-j c = search needs
 
 alike-code-requires : tie.Need-alike-code-requires

@@ -17,11 +17,11 @@ slice-aggregate-read-sheet c = sym (length-take-le 4096 (c .before .before .befo
 read-sheet-requires : tie.Need-read-sheet-requires
 read-sheet-requires c κs = length-take-le 4096 (c .before .before .before .before .args .table .now) (omega (arith, c .before .before .before .before .pre))
 
-enum-known-n : tie.Need-enum-known-n
+enum-known-n : tie.Need-enum-known-types
 enum-known-n c = search needs
 
 read-destination-requires : tie.Need-read-destination-requires
-read-destination-requires c κs = source-read _ [] (c .before .before .before .before .before .before .before .before .before .before .before .args .table .now) _ (c .before .before .before .before .before .before .before .before .before .before .before .pre) _ _ (c .before .before .before .before .before .before .read-sheet .ensures) (c .before .before .n .given .1)
+read-destination-requires c κs = source-read _ [] (c .before .before .before .before .before .before .before .before .before .before .before .args .table .now) _ (c .before .before .before .before .before .before .before .before .before .before .before .pre) _ _ (c .before .before .before .before .before .before .read-sheet .ensures) (c .before .before .types .given .1)
 
 enum-known-line : tie.Need-enum-known-line
 enum-known-line c = search needs

@@ -12,7 +12,7 @@ returns : tie.Need-returns
 returns c =
     let a = c .before .before .before .before .before .args in
     c .inside .ensures
-    ∙ ap₂ (λ (o z : ℕ). within o z (a .b)) (c .before .before .before .row-word .ensures .is) (c .before .type-word .ensures .is ∙ ap (sizeWord (now (a .w))) (c .before .before .row-word2 .ensures .is))
+    ∙ ap₂ (λ (o z : ℕ). within o z (a .byte)) (c .before .before .before .row-word .ensures .is) (c .before .type-word .ensures .is ∙ ap (sizeWord (now (a .half))) (c .before .before .row-word2 .ensures .is))
 
 pub row-covers-spec : {M : Type 1} → statement M
 row-covers-spec =

@@ -11,7 +11,7 @@ returns : tie.Need-returns
 returns c =
     let a = c .before .before .before .before .args in
     ap₂ (λ (o z : ℕ). o + z) (c .before .before .row-word .ensures .is)
-    (c .type-word .ensures .is ∙ ap (sizeWord (now (a .w))) (c .before .row-word2 .ensures .is))
+    (c .type-word .ensures .is ∙ ap (sizeWord (now (a .half))) (c .before .row-word2 .ensures .is))
 
 pub row-end-spec : {M : Type 1} → statement M
 row-end-spec =

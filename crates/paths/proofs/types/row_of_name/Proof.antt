@@ -14,8 +14,8 @@ returns c =
     let rows = types .before .before in
     let a = rows .before .before .before .before .before .args in
     c .row-named .ensures
-    ∙ ap₂ (λ (s n : ℕ). rowNamed (now (a .ws)) (now (a .ts)) (bytesAt (now (a .td)) s n) (types .type-word .result) (c .before .type-word2 .result)) (rows .row-word .ensures .is) (types .before .row-word2 .ensures .is)
-    ∙ ap₂ (rowNamed (now (a .ws)) (now (a .ts)) (nameAt (now (a .wd)) (now (a .td)) (a .j))) (types .type-word .ensures .is) (c .before .type-word2 .ensures .is)
+    ∙ ap₂ (λ (s n : ℕ). rowNamed (now (a .source-half)) (now (a .source-sheet)) (bytesAt (now (a .destination-sheet)) s n) (types .type-word .result) (c .before .type-word2 .result)) (rows .row-word .ensures .is) (types .before .row-word2 .ensures .is)
+    ∙ ap₂ (rowNamed (now (a .source-half)) (now (a .source-sheet)) (nameAt (now (a .destination-half)) (now (a .destination-sheet)) (a .row))) (types .type-word .ensures .is) (c .before .type-word2 .ensures .is)
 
 pub row-of-name-spec : {M : Type 1} → statement M
 row-of-name-spec =

@@ -10,26 +10,26 @@ use Rattle.row_rules.proofs.member.may_place.Tie as tie
 returns : tie.Need-returns
 returns c =
     let a = c .before .before .before .before .before .before .before .args in
-    let name = member-missing _ _ (bytesAt (a .t .now) (a .start) (a .len)) _ _ (typeAt (a .w .now) (a .t .now)) (c .before .before .row-named .ensures) (c .before .is-missing .ensures) ∙ not-true _ (c .if1 .taken) in
+    let name = member-missing _ _ (bytesAt (a .sheet .now) (a .start) (a .len)) _ _ (typeAt (a .half .now) (a .sheet .now)) (c .before .before .row-named .ensures) (c .before .is-missing .ensures) ∙ not-true _ (c .if1 .taken) in
     rw (← (c .before .before .before .before .type-word .ensures .is), ← (c .before .before .before .type-word2 .ensures .is), name) refl
 
 returns-2 : tie.Need-returns-2
 returns-2 c =
     let a = c .before .before .before .before .before .before .before .before .before .args in
-    let name = member-missing _ _ (bytesAt (a .t .now) (a .start) (a .len)) _ _ (typeAt (a .w .now) (a .t .now)) (c .before .before .before .before .row-named .ensures) (c .before .before .before .is-missing .ensures) ∙ not-false _ (c .before .before .if1 .left) in
+    let name = member-missing _ _ (bytesAt (a .sheet .now) (a .start) (a .len)) _ _ (typeAt (a .half .now) (a .sheet .now)) (c .before .before .before .before .row-named .ensures) (c .before .before .before .is-missing .ensures) ∙ not-false _ (c .before .before .if1 .left) in
     rw (← (c .before .before .before .before .before .before .type-word .ensures .is), ← (c .before .before .before .before .before .type-word2 .ensures .is), name, ← (c .before .type-word3 .ensures .is), lt-leb _ _ (c .if2 .taken)) refl
 
 returns-3 : tie.Need-returns-3
 returns-3 c =
     let a = c .before .before .before .before .before .before .before .before .before .before .args in
-    let name = member-missing _ _ (bytesAt (a .t .now) (a .start) (a .len)) _ _ (typeAt (a .w .now) (a .t .now)) (c .before .before .before .before .before .row-named .ensures) (c .before .before .before .before .is-missing .ensures) ∙ not-false _ (c .before .before .before .if1 .left) in
+    let name = member-missing _ _ (bytesAt (a .sheet .now) (a .start) (a .len)) _ _ (typeAt (a .half .now) (a .sheet .now)) (c .before .before .before .before .before .row-named .ensures) (c .before .before .before .before .is-missing .ensures) ∙ not-false _ (c .before .before .before .if1 .left) in
     rw (
       ← (c .before .before .before .before .before .before .before .type-word .ensures .is),
       ← (c .before .before .before .before .before .before .type-word2 .ensures .is),
       name,
       ← (c .before .before .type-word3 .ensures .is),
       le-leb _ _ (c .before .if2 .left),
-      apart-is (a .w .now) (a .t .now) (c .before .before .before .before .before .before .before .type-word .result) (c .before .before .before .before .before .before .type-word2 .result) (a .offset) (a .width),
+      apart-is (a .half .now) (a .sheet .now) (c .before .before .before .before .before .before .before .type-word .result) (c .before .before .before .before .before .before .type-word2 .result) (a .offset) (a .width),
     )
     (c .is-apart .ensures)
 

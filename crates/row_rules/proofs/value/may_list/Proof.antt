@@ -14,13 +14,13 @@ returns c =
 returns-2 : tie.Need-returns-2
 returns-2 c =
     let name = name-missing _ _ _ _ _ (c .before .before .before .before .before .row-named .ensures) (c .before .before .before .before .is-missing .ensures) ∙ not-false _ (c .before .before .before .if1 .left) in
-    let number = number-missing _ (c .before .before .before .before .before .before .before .before .before .before .args .t .now) _ _ _ (c .before .before .row-numbered .ensures) (c .before .is-missing2 .ensures) ∙ not-true _ (c .if2 .taken) in
+    let number = number-missing _ (c .before .before .before .before .before .before .before .before .before .before .args .sheet .now) _ _ _ (c .before .before .row-numbered .ensures) (c .before .is-missing2 .ensures) ∙ not-true _ (c .if2 .taken) in
     rw (← (c .before .before .before .before .before .before .before .type-word .ensures .is), ← (c .before .before .before .before .before .before .type-word2 .ensures .is), name, number) refl
 
 returns-3 : tie.Need-returns-3
 returns-3 c =
     let name = name-missing _ _ _ _ _ (c .before .before .before .before .before .before .before .row-named .ensures) (c .before .before .before .before .before .before .is-missing .ensures) ∙ not-false _ (c .before .before .before .before .before .if1 .left) in
-    let number = number-missing _ (c .before .before .before .before .before .before .before .before .before .before .before .before .args .t .now) _ _ _ (c .before .before .before .before .row-numbered .ensures) (c .before .before .before .is-missing2 .ensures) ∙ not-false _ (c .before .before .if2 .left) in
+    let number = number-missing _ (c .before .before .before .before .before .before .before .before .before .before .before .before .args .sheet .now) _ _ _ (c .before .before .before .before .row-numbered .ensures) (c .before .before .before .is-missing2 .ensures) ∙ not-false _ (c .before .before .if2 .left) in
     rw (← (c .before .before .before .before .before .before .before .before .before .type-word .ensures .is), ← (c .before .before .before .before .before .before .before .before .type-word2 .ensures .is), name, number, ← (c .before .layout-at .ensures .0))
     (c .in-range .ensures)
 

@@ -30,7 +30,7 @@ returns : tie.Need-returns
 unfolding rowAdded
 returns c =
     c .before .before .put-rows-word .ensures
-    ∙ ap₂ (λ (x : List ℕ) (n : ℕ). set x (16 * c .before .before .before .before .before .before .before .before .before .before .before .args .i + 10) (n + 1)) (c .before .before .before .before .before .before .put-row .ensures) (c .before .before .before .before .before .before .before .before .type-word .ensures .is)
+    ∙ ap₂ (λ (x : List ℕ) (n : ℕ). set x (16 * c .before .before .before .before .before .before .before .before .before .before .before .args .type-number + 10) (n + 1)) (c .before .before .before .before .before .before .put-row .ensures) (c .before .before .before .before .before .before .before .before .type-word .ensures .is)
 
 pub add-row-spec : {M : Type 1} → statement M
 add-row-spec =

@@ -20,7 +20,7 @@ loop-holds c = (omega arith, refl, refl)
 loop-again : tie.Need-loop-again Inv-loop μ-loop
 loop-again c =
     let at = c .before in
-    (omega arith, simp length-set (at .loop .inv .1), rw (at .loop .inv .2) (fill-more (at .loop .i) 0 (at .before .args .w .now) (omega arith)))
+    (omega arith, simp length-set (at .loop .inv .1), rw (at .loop .inv .2) (fill-more (at .loop .i) 0 (at .before .args .words .now) (omega arith)))
 
 same-length : tie.Need-same-length Inv-loop μ-loop
 same-length c = c .before .loop .inv .1

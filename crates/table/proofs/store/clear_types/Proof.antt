@@ -23,22 +23,22 @@ abbrev μ-loop : tie.MeasureT-loop
 μ-loop w₀ n from q₀ w q = 1024 - 16 * n - q
 
 loop-holds : tie.Need-loop-holds Inv-loop μ-loop
-loop-holds c = (paste-zero (c .args .w .now) (16 * c .args .n) (replicate (1024 - 16 * c .args .n) 0), omega arith, refl)
+loop-holds c = (paste-zero (c .args .half .now) (16 * c .args .n) (replicate (1024 - 16 * c .args .n) 0), omega arith, refl)
 
 loop-again : tie.Need-loop-again Inv-loop μ-loop
 loop-again c =
     let i = c .before .loop .inv in
     let a = c .before .before .args in (
-      rw (i .0) (more (a .w .now) (16 * a .n) (1024 - 16 * a .n) (c .before .loop .q) (omega arith) (omega arith)),
+      rw (i .0) (more (a .half .now) (16 * a .n) (1024 - 16 * a .n) (c .before .loop .q) (omega arith) (omega arith)),
       omega arith,
-      length-set (c .before .loop .w) _ _ ∙ i .2,
+      length-set (c .before .loop .half) _ _ ∙ i .2,
     )
 
 returns : tie.Need-returns Inv-loop μ-loop
 unfolding typesCleared
 returns c =
     let e : c .before .loop .q ≡ 1024 - 16 * c .before .before .args .n = omega arith in
-    c .before .loop .inv .0 ∙ ap (paste (c .before .before .args .w .now) (16 * c .before .before .args .n) (replicate (1024 - 16 * c .before .before .args .n) 0)) e
+    c .before .loop .inv .0 ∙ ap (paste (c .before .before .args .half .now) (16 * c .before .before .args .n) (replicate (1024 - 16 * c .before .before .args .n) 0)) e
 
 pub clear-types-spec : {M : Type 1} → statement M
 clear-types-spec =

@@ -15,15 +15,15 @@ abbrev μ-loop : tie.MeasureT-loop
 μ-loop w₀ k r q₀ w q = length r - q
 
 loop-holds : tie.Need-loop-holds Inv-loop μ-loop
-loop-holds c = (paste-zero (c .args .w .now) (c .args .k) (c .args .r .now), omega arith, refl)
+loop-holds c = (paste-zero (c .args .half .now) (c .args .place) (c .args .r .now), omega arith, refl)
 
 loop-again : tie.Need-loop-again Inv-loop μ-loop
 loop-again c =
     let i = c .before .before .loop .inv in
     let a = c .before .before .before .args in (
-      rw (i .0, add-one) (paste-suc (a .w .now) (a .k) (a .r .now) (c .before .before .loop .q) 0 (omega arith) (omega arith)),
+      rw (i .0, add-one) (paste-suc (a .half .now) (a .place) (a .r .now) (c .before .before .loop .q) 0 (omega arith) (omega arith)),
       omega arith,
-      length-set (c .before .before .loop .w) _ _ ∙ i .2,
+      length-set (c .before .before .loop .half) _ _ ∙ i .2,
     )
 
 returns : tie.Need-returns Inv-loop μ-loop

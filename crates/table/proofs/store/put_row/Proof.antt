@@ -26,7 +26,7 @@ returns : tie.Need-returns
 returns c =
     let a = c .before .before .before .before .before .before .args in
     let e : length (a .t3) ≡ 8 = search needs in
-    c .before .before .put .ensures ∙ ap (λ (k : ℕ). paste (a .w .now) (1024 + 8 * a .j) (a .t3) k) e
+    c .before .before .put .ensures ∙ ap (λ (k : ℕ). paste (a .half .now) (1024 + 8 * a .row) (a .t3) k) e
 
 pub put-row-spec : {M : Type 1} → statement M
 put-row-spec =

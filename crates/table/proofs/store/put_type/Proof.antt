@@ -23,7 +23,7 @@ returns : tie.Need-returns
 returns c =
     let a = c .before .before .before .before .before .before .args in
     let e : length (a .t3) ≡ 16 = search needs in
-    c .before .before .put .ensures ∙ ap (λ (k : ℕ). paste (a .w .now) (16 * a .i) (a .t3) k) e
+    c .before .before .put .ensures ∙ ap (λ (k : ℕ). paste (a .half .now) (16 * a .type-number) (a .t3) k) e
 
 pub put-type-spec : {M : Type 1} → statement M
 put-type-spec = tie.close (tie.spec mul-put slice-aggregate-put put-requires same-length returns)
