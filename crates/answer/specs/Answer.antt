@@ -1,7 +1,8 @@
--- Document 01, "Numbers of refusal, in the order of checks": the number of each answer, and every field beside it.
+-- Document 01, "Numbers of refusal, in the order of checks": the number of each answer, and every field beside it. Document 02, 2026-01: "10 CHANNEL",
+-- "11 FULL", with no fields.
 use Prim.Native.Nat.{ℕ}
 use Rattle.answer.specs.declared.Answer.{Answer}
-use Rattle.answer.specs.declared.Answer.the-variants.{Done, Handling, Table, Source, Destination, Path, Count, Room, Stop, Range}
+use Rattle.answer.specs.declared.Answer.the-variants.{Done, Handling, Table, Source, Destination, Path, Count, Room, Stop, Range, Channel, Full}
 use Rattle.answer.specs.declared.Values.{Values}
 
 -- the column "No."
@@ -16,6 +17,8 @@ numberOf Count = 6
 numberOf Room = 7
 numberOf (Stop i at kind) = 8
 numberOf Range = 9
+numberOf Channel = 10
+numberOf Full = 11
 
 -- "Unnamed fields are 0."
 abbrev unnamed : Values
@@ -36,3 +39,5 @@ valuesOf Count = unnamed
 valuesOf Room = unnamed
 valuesOf (Stop i at kind) = record { count = 0; line = 0; «record» = i; at = at; kind = kind }
 valuesOf Range = unnamed
+valuesOf Channel = unnamed
+valuesOf Full = unnamed

@@ -1,4 +1,4 @@
-// What a call answers: done, or the refusal by the first check that fails, in the order of document 01's table.
+// What a call answers: done, or the refusal by the first check that fails. Numbers and fields are those of document 01's table, and of document 02 from 10 on.
 ghost use mathlib.Core.Path.{_≡_};
 ghost use Rattle.answer.specs.Answer.{numberOf, valuesOf};
 
@@ -16,6 +16,10 @@ pub enum Answer {
     // The record, the destination byte in it, and the kind of the exception.
     Stop(u32, u32, u32),
     Range,
+    // An int leaf of the reader's sheet is wider than a report takes.
+    Channel,
+    // The report takes no more records, or holds what no report leaves.
+    Full,
 }
 
 // The fields that document 01's table names beside an answer's number; a field that the table does not name is 0.
@@ -27,7 +31,7 @@ pub struct Values {
     pub kind: u32,
 }
 
-// Document 01's number of an answer.
+// The number of an answer.
 pub fn number_of(a: Answer) -> u32
     ensures { λ r. ⌜ r ≡ numberOf a ⌝ }
 {
@@ -42,6 +46,8 @@ pub fn number_of(a: Answer) -> u32
         Answer::Room => 7,
         Answer::Stop(_, _, _) => 8,
         Answer::Range => 9,
+        Answer::Channel => 10,
+        Answer::Full => 11,
     }
 }
 
@@ -98,5 +104,7 @@ pub fn values_of(a: Answer) -> Values
         Answer::Count => bare(),
         Answer::Room => bare(),
         Answer::Range => bare(),
+        Answer::Channel => bare(),
+        Answer::Full => bare(),
     }
 }

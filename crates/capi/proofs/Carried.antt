@@ -2,10 +2,12 @@
 use mathlib.Core.Path.{_≡_, subst}
 use mathlib.Core.List.{List}
 use Prim.Native.Nat.{ℕ}
+use lib.IntN.{ℤ}
 use Rattle.answer.specs.declared.Answer.{Answer}
 use Rattle.runs.specs.Run.{Run, answer, after, tableAfter, Answers}
 use Rattle.answer_words.specs.AnswerWords.{Gives}
-use Rattle.capi.specs.Calls.{Answered, Called, Converts}
+use Rattle.reports.specs.Call.{Call, Reports}
+use Rattle.capi.specs.Calls.{Answered, Called, Converts, Reported}
 
 module _ {a b : Answer} {lent table words : List ℕ} {r : ℕ} (e : b ≡ a) (t : table ≡ tableAfter b lent) (g : Gives b r words) where
   pub answered : Answered a lent r words table
@@ -17,3 +19,8 @@ module _ {a b : Answer} {lent table words : List ℕ} {r : ℕ} (e : b ≡ a) (t
 -- all four converting forms
 pub converted : {run : Run} {a : Answer} {out table words : List ℕ} {r : ℕ} → Answers run a out table → Gives a r words → Converts run r words out table
 converted h g = carried (h .answers) (h .clears) g (h .leaves)
+
+-- the report
+pub reported : {call : Call} {a : Answer} {log : List ℕ} {memory : List ℤ} {output table words : List ℕ} {r : ℕ} → Reports call a log memory output table → Gives a r words
+    → Reported call r words log memory output table
+reported h g = record { answered = answered (h .answers) (h .clears) g; converts = h .converts; holds = h .holds; shows = h .shows }

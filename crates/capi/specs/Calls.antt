@@ -2,9 +2,12 @@
 use mathlib.Core.Path.{_≡_}
 use mathlib.Core.List.{List}
 use Prim.Native.Nat.{ℕ}
+use lib.IntN.{ℤ}
 use Rattle.answer.specs.declared.Answer.{Answer}
 use Rattle.answer_words.specs.AnswerWords.{Gives}
 use Rattle.runs.specs.Run.{Run, answer, after, tableAfter}
+use Rattle.reports.specs.Call as report
+use Rattle.reports.specs.Call.{Call}
 
 -- a call that answers a, and leaves the table as every call leaves it
 pub record Answered (a : Answer) (lent : List ℕ) (r : ℕ) (words table : List ℕ) : Type 0 where
@@ -19,3 +22,10 @@ pub record Called (a : Answer) (left lent : List ℕ) (r : ℕ) (words out table
 -- a call of a converting form
 abbrev pub Converts : Run → ℕ → List ℕ → List ℕ → List ℕ → Type 0
 Converts run r words out table = Called (answer run) (after run) (run .table) r words out table
+
+-- a call of the report
+pub record Reported (call : Call) (r : ℕ) (words log : List ℕ) (memory : List ℤ) (output table : List ℕ) : Type 0 where
+  pub answered : Answered (report.answer call) (call .table) r words table
+  pub converts : log ≡ report.logAfter call
+  pub holds : memory ≡ report.memoryAfter call
+  pub shows : output ≡ report.outputAfter call

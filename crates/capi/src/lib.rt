@@ -1,9 +1,9 @@
 // The calls for C: an answer and a layout are eight words each, lent by one pointer; a slice is a pointer and a length.
 ghost use lib.ListN.{length};
 ghost use Rattle.runs.specs.Run.{copyingRun, inPlaceRun, plain};
-ghost use Rattle.leaves.specs.LeafList.{answerOf as listAnswerOf, listAfter};
+ghost use Rattle.leaves.specs.Call.{answerOf as listAnswerOf, listAfter};
 ghost use Rattle.record_size.specs.RecordSize.{answerOf as sizeAnswerOf};
-ghost use Rattle.capi.specs.Calls.{Answered, Called, Converts};
+ghost use Rattle.capi.specs.Calls.{Answered, Called, Converts, Reported};
 use answer_words::give;
 
 pub mod setters;
@@ -128,5 +128,33 @@ pub extern "C" fn yirvagul_record_size(sheet: &[u8], table: &mut [u32], words: &
     ensures { λ r. ⌜ Answered (sizeAnswerOf (now (sheet .entry)) (length (now (table .entry)))) (now (table .entry)) r (now (words .exit)) (now (table .exit)) ⌝ }
 {
     let a = record_size::record_size(sheet, table);
+    give(a, words)
+}
+
+// Adds a log to a report.
+#[no_mangle]
+pub extern "C" fn yirvagul_report(
+    source_sheet: &[u8],
+    reader_sheet: &[u8],
+    count: u64,
+    log: &mut [u8],
+    background: &[u8],
+    memory: &mut [i64],
+    output: &mut [u8],
+    table: &mut [u32],
+    words: &mut [u64; 8],
+) -> u32
+    ensures { λ r. ⌜ Reported (record { sourceSheet = now («source_sheet» .entry); readerSheet = now («reader_sheet» .entry); count = count; log = now (log .entry); background = now (background .entry); memory = now (memory .entry); output = now (output .entry); table = now (table .entry) }) r (now (words .exit)) (now (log .exit)) (now (memory .exit)) (now (output .exit)) (now (table .exit)) ⌝ }
+{
+    let a = report::report(
+        source_sheet,
+        reader_sheet,
+        count,
+        log,
+        background,
+        memory,
+        output,
+        table,
+    );
     give(a, words)
 }

@@ -45,7 +45,7 @@ fn has_room(
 }
 
 // Checks 5 to 7, of types that were read.
-fn check_types(
+pub fn check_types(
     in_place: bool,
     source_sheet: &[u8],
     destination_sheet: &[u8],

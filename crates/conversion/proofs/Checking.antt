@@ -80,6 +80,14 @@ pub size-type : (w t : List ℕ) (i : ℕ) → size (typeAt w t i) ≡ sizeWord 
 unfolding decode
 size-type w t i = node-size (decode 63 w t) w t i
 
+-- a size that was read is the type's
+pub read-size : (w t : List ℕ) (i : ℕ) {s : ℕ} → Reads (sizeWord w i) s → s ≡ size (typeAt w t i)
+read-size w t i r = r .is ∙ sym (size-type w t i)
+
+-- such a type goes with the small arrays
+pub is-small : (ds wd : List ℕ) (k : ℕ) {d : ℕ} → Reads (sizeWord wd k) d → d ≤ 128 → size (typeAt wd ds k) ≤ 128
+is-small ds wd k r h = rw (size-type wd ds k, ← (r .is)) h
+
 -- ---- types
 
 module _ (b : Bool) (ss ds : List ℕ) (n out other : ℕ) (ws : List ℕ) (i : ℕ) (wd : List ℕ) (k : ℕ) (types : Both ss ws i ds wd k) where
@@ -98,10 +106,10 @@ module _ (b : Bool) (ss ds : List ℕ) (n out other : ℕ) (ws : List ℕ) (i : 
 
     module _ (h : not p ≡ false) (few : n ≤ 65536) {s d : ℕ} (rs : Reads (sizeWord ws i) s) (rd : Reads (sizeWord wd k) d) where
       source-size : s ≡ size (typeAt ws ss i)
-      source-size = rs .is ∙ sym (size-type ws ss i)
+      source-size = read-size ws ss i rs
 
       destination-size : d ≡ size (typeAt wd ds k)
-      destination-size = rd .is ∙ sym (size-type wd ds k)
+      destination-size = read-size wd ds k rd
 
       pub sizes-fit : (n ≤ 65536) × (s ≤ 4096) × (d ≤ 4096)
       sizes-fit = (few, rw source-size (size-most S (types .source)), rw destination-size (size-most D (types .destination)))

@@ -1,3 +1,4 @@
 pub mod Tests
 pub mod Ways
 pub mod Matches
+pub mod HasPath

@@ -4,3 +4,4 @@ pub mod Leaves
 pub mod Paths
 pub mod Matches
 pub mod WellFormed
+pub mod HasPath

@@ -8,7 +8,6 @@ use borrow.Author.Needs.{needs}
 use borrow.Author.Tests.{le-leb, lt-leb}
 use lib.Dec.{leb}
 use lib.ListN.{length, drop, replicate, length-append}
-use lib.Seq.{paste}
 use Rattle.answer.specs.declared.Answer.{Answer}
 use Rattle.answer.specs.declared.Answer.the-variants.{Done, Table, Source, Room}
 use Rattle.datatype.specs.Datatype.{Datatype, size}
@@ -24,21 +23,10 @@ use Rattle.sheet_steps.specs.Read.{ReadsSheet}
 use Rattle.sheet_steps.proofs.Types.{sheet-fault, sheet-type, type-formed}
 use Rattle.runs.specs.Run.{cleared, tableAfter}
 use Rattle.runs.proofs.Table.{half-cleared}
-use Rattle.leaves.specs.LeafList.{leafLines, leafList, listAnswer, answerOf, listAfter}
-use Rattle.leaves.specs.Lines.{header, written, Wrote, Lists}
-use Rattle.leaves.proofs.Writing.{written-is, written-append, wrote}
-
--- ---- the header and the lines
-
-pub list-wrote : (d : List ℕ) {e f : List ℕ} {m : ℕ} (lines : List ℕ) → 14 + length lines ≤ length d → (m ≡ 14) × (e ≡ paste d 0 header 14) → f ≡ written e m lines
-    → f ≡ written d 0 (header ++ lines)
-list-wrote d {e} {f} {m} lines h p q =
-    let room : 0 + length header ≤ length d = omega arith in
-    let first : Wrote d 0 header e m = wrote d 0 room p in
-    q ∙ rw (first .ends, first .is) (written-append d 0 header room lines)
-
-written-front : (d r : List ℕ) → written d 0 r ≡ r ++ drop (length r) d
-written-front d r = let e : 0 + length r ≡ length r = omega arith in written-is d 0 r ∙ ap (λ (n : ℕ). r ++ drop n d) e
+use Rattle.text.specs.Written.{written}
+use Rattle.text.proofs.Written.{written-front}
+use Rattle.leaf_lines.specs.LeafList.{leafLines, header, leafList}
+use Rattle.leaves.specs.Call.{listAnswer, answerOf, listAfter, Lists}
 
 -- ---- a type
 

@@ -1,2 +1,1 @@
-pub mod LeafList
-pub mod Lines
+pub mod Call

@@ -7,11 +7,10 @@ ghost use Rattle.runs.specs.Run.{tableAfter};
 ghost use Rattle.table.specs.Table.{sizeWord, typeAt};
 ghost use Rattle.sheet.specs.Sheet.{sheetOf};
 ghost use Rattle.sheet.specs.Sheet.Sheet.{ofType};
-ghost use Rattle.leaves.specs.LeafList.{answerOf, listAfter};
-ghost use Rattle.leaves.specs.Lines.{Lists};
-use crate::leaf::lines_len;
-use crate::leaf::put_list;
+ghost use Rattle.leaves.specs.Call.{answerOf, listAfter, Lists};
 use answer::Answer;
+use leaf_lines::lines_len;
+use leaf_lines::put_list;
 use reading::read_sheet;
 use sheet_steps::SheetRead;
 use table::HALF;
@@ -23,20 +22,17 @@ use table::store::clear;
 // The length of the list's header.
 const HEADER: usize = 14;
 
-pub mod column;
-pub mod leaf;
-
-// The list of type i, where there is room for it.
-fn list_type(list: &mut [u8], w: &[u32], i: usize) -> Answer
-    requires { ⌜ sizeWord (now w) i ≤ 4096 ⌝ }
-    ensures { λ r. ⌜ ((t : List ℕ) → Lists (ofType (typeAt (now (w .entry)) t i)) (now (list .entry)) (now (list .exit)) r) ⌝ }
+// The list of a type, where there is room for it.
+fn list_type(list: &mut [u8], half: &[u32], type_number: usize) -> Answer
+    requires { ⌜ sizeWord (now half) «type_number» ≤ 4096 ⌝ }
+    ensures { λ r. ⌜ ((t : List ℕ) → Lists (ofType (typeAt (now (half .entry)) t «type_number»)) (now (list .entry)) (now (list .exit)) r) ⌝ }
 {
-    let size = type_word(w, i, SIZE);
-    let len = HEADER + lines_len(w, i, size);
+    let size = type_word(half, type_number, SIZE);
+    let len = HEADER + lines_len(half, type_number, size);
     if list.len() < len {
         return Answer::Room;
     }
-    put_list(list, w, i, size);
+    put_list(list, half, type_number, size);
     Answer::Done(len as u64)
 }
 

@@ -17,9 +17,9 @@ use text::field_end;
 use text::is_newline;
 use text::is_tab;
 use text::name_at;
-use text::number_at;
-use text::whole_at;
 use text::word_at;
+use text_numbers::number_at;
+use text_numbers::whole_at;
 
 // The line ends where its last field ended: at its byte 10.
 pub fn next_line(s: &[u8], q: usize) -> Next

@@ -1,12 +1,9 @@
 -- How long numbers and lists can be. Assumes nothing.
 use mathlib.Core.Path.{_≡_, refl, _∙_}
-use mathlib.Core.Bool.{Bool, true, false}
 use mathlib.Core.List.{List, [], _∷_, _++_}
 use mathlib.Core.Option.{Option, none, some}
-use Prim.Native.Nat.{ℕ, zero, suc, _+_, _*_, _/_, _≤_, _<_}
+use Prim.Native.Nat.{ℕ, zero, suc, _+_, _*_, _≤_, _<_}
 use native.Mathlib.Omega.{arith}
-use borrow.Author.Tests.{ltb-true, ltb-false}
-use lib.Dec.{ltb}
 use lib.ListN.{length, length-append}
 use Rattle.layout.specs.declared.Class.{Class}
 use Rattle.layout.specs.declared.Class.the-variants.{Int, Bits}
@@ -20,37 +17,17 @@ use Rattle.datatype.proofs.Ways.{leaf-way, way-formed, valid}
 use Rattle.datatype.proofs.Matches.{size-most}
 use Rattle.text.specs.Text.{bytes, tab, newline}
 use Rattle.text.specs.Field.{decimalOf}
-use Rattle.text.proofs.Decimals.{length-small, length-large}
+use Rattle.text.proofs.Decimals.{digits-most}
 use Rattle.sheet.specs.Sheet.{sheetOf}
 use Rattle.sheet.specs.Sheet.Sheet.{ofType}
 use Rattle.sheet.proofs.ReadWellFormed.{read-well-formed}
-use Rattle.leaves.specs.LeafList.{atomicName, className, leafLine, leafLines, leafList}
+use Rattle.leaf_lines.specs.LeafList.{atomicName, className, leafLine, leafLines, leafList}
 
 -- ---- numbers
 
--- every number up to c has at most k digits
-abbrev Digits : ℕ → ℕ → Type 0
-Digits c k = (n : ℕ) → n ≤ c → length (decimalOf n) ≤ k
-
-one : Digits 9 1
-one n h = omega (arith, length-small n (omega arith))
-
-more : {c k : ℕ} → 1 ≤ k → Digits c k → Digits (c * 10 + 9) (k + 1)
-more {c} {k} g d n h = go (ltb n 10) refl
-  where
-    go : (t : Bool) → ltb n 10 ≡ t → length (decimalOf n) ≤ k + 1
-    go true e = omega (arith, length-small n (ltb-true n 10 e))
-    go false e = omega (arith, length-large n (ltb-false n 10 e), d (n / 10) (omega arith))
-
-four : Digits 9999 4
-four = more (omega arith) (more (omega arith) (more (omega arith) one))
-
-ten : Digits 9999999999 10
-ten = more (omega arith) (more (omega arith) (more (omega arith) (more (omega arith) (more (omega arith) (more (omega arith) four)))))
-
 -- a 32-bit number
 pub word-digits : (n : ℕ) → n < 4294967296 → length (decimalOf n) ≤ 10
-word-digits n h = ten n (omega arith)
+word-digits n h = digits-most 9 n (omega arith)
 
 -- ---- lists
 
@@ -75,7 +52,7 @@ module _ (T : Datatype) (formed : WellFormed T) where
       go none e = omega arith
       go (some x) e =
           let f : WellFormed (leaf x) = way-formed (leaf-way T formed e) formed in
-          omega (arith, line-length b x, four b (omega arith), one (leafSize x) (omega (arith, valid x f .sized)), name-most x)
+          omega (arith, line-length b x, digits-most 3 b (omega arith), digits-most 0 (leafSize x) (omega (arith, valid x f .sized)), name-most x)
 
   lines-most : (b k : ℕ) → b + k ≤ 4096 → length (leafLines T b k) ≤ 12 * k
   unfolding leafLines

@@ -13,9 +13,10 @@ use Rattle.datatype.specs.Datatype.{Datatype}
 use Rattle.sheet.specs.Sheet.{Sheet, sheetOf}
 use Rattle.sheet.specs.Sheet.Sheet.{ofType, faultyAt}
 use Rattle.runs.specs.Run.{ifDone}
-use Rattle.leaves.specs.LeafList.{leafList, listed, answerOf, listAfter}
-use Rattle.leaves.specs.Lines.{written, Wrote}
-use Rattle.leaves.proofs.Writing.{written-is}
+use Rattle.text.specs.Written.{written, Wrote}
+use Rattle.text.proofs.Written.{written-front}
+use Rattle.leaf_lines.specs.LeafList.{leafList}
+use Rattle.leaves.specs.Call.{listed, answerOf, listAfter}
 use Rattle.listing.specs.declared.Output.{Output}
 use Rattle.listing.specs.declared.Output.the-variants.{List as AList, Refused}
 use Rattle.listing.specs.Output.{refusedLine, refusal, printed, outputOf, kindOf}
@@ -23,12 +24,9 @@ use Rattle.listing.proofs.Lengths.{list-most}
 
 -- ---- the front of a buffer
 
-front : (d r : List ℕ) → written d 0 r ≡ r ++ drop (length r) d
-front d r = let e : 0 + length r ≡ length r = omega arith in written-is d 0 r ∙ ap (λ (n : ℕ). r ++ drop n d) e
-
 -- what was written into a buffer that kept its length lies in it
 pub inside : (d r : List ℕ) → length (written d 0 r) ≡ length d → length r ≤ length d
-inside d r h = omega (arith, ap length (front d r), length-append r (drop (length r) d), length-drop (length r) d)
+inside d r h = omega (arith, ap length (written-front d r), length-append r (drop (length r) d), length-drop (length r) d)
 
 pub wrote-inside : {d r e : List ℕ} {n : ℕ} → Wrote d 0 r e n → n ≤ length e
 wrote-inside {d} {r} w = omega (arith, w .ends, w .same, inside d r (ap length (sym (w .is)) ∙ w .same))
@@ -46,7 +44,7 @@ module _ (s d : List ℕ) (room : 49166 ≤ length d) {a : Answer} {f : List ℕ
 
   type-list : (T : Datatype) → sheetOf s ≡ ofType T → f ≡ written d 0 (leafList T)
   unfolding listAfter
-  type-list T e = lists ∙ ap₂ (λ (x : Answer) (y : Sheet). ifDone x (listed y d) d) (type-answer T e) e ∙ sym (front d (leafList T))
+  type-list T e = lists ∙ ap₂ (λ (x : Answer) (y : Sheet). ifDone x (listed y d) d) (type-answer T e) e ∙ sym (written-front d (leafList T))
 
   fault-list : (k : ℕ) → sheetOf s ≡ faultyAt k → f ≡ d
   unfolding listAfter

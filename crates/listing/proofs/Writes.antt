@@ -11,8 +11,8 @@ use lib.ListN.{length, getD, set, length-append, length-map, List·getD-map}
 use lib.Seq.{paste, paste-suc}
 use Rattle.text.specs.Text.{bytes}
 use Rattle.text.specs.Field.{decimalOf}
-use Rattle.leaves.specs.Lines.{Wrote}
-use Rattle.leaves.proofs.Writing.{wrote, wrote-none, wrote-then}
+use Rattle.text.specs.Written.{Wrote}
+use Rattle.text.proofs.Written.{wrote, wrote-none, wrote-then}
 use Rattle.listing.specs.Output.{refusedLine}
 use Rattle.reader.specs.Lines.{lineNumbered}
 use Rattle.reader.proofs.Lines.{number-length}

@@ -9,7 +9,7 @@ use Rattle.text.specs.Text.{bytes}
 use Rattle.text.specs.Field.{decimalOf}
 use Rattle.sheet.specs.Sheet.{Sheet, sheetOf}
 use Rattle.sheet.specs.Sheet.Sheet.{ofType, faultyAt}
-use Rattle.leaves.specs.LeafList.{leafList}
+use Rattle.leaf_lines.specs.LeafList.{leafList}
 use Rattle.listing.specs.declared.Output.{Output}
 use Rattle.listing.specs.declared.Output.the-variants.{List as AList, Refused}
 

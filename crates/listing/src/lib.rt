@@ -3,14 +3,14 @@ ghost use mathlib.Core.Path.{_≡_};
 ghost use Prim.Native.Nat.{_≤_};
 ghost use lib.ListN.{length};
 ghost use Rattle.sheet.specs.Sheet.{sheetOf};
-ghost use Rattle.leaves.specs.Lines.{written, Wrote};
+ghost use Rattle.text.specs.Written.{written, Wrote};
 ghost use Rattle.listing.specs.Output.{refusedLine, outputOf, kindOf};
 use crate::note::put_note;
 use answer::number_of;
 use answer::values_of;
 use leaves::leaf_list;
-use text::put_bytes;
-use text::put_decimal;
+use text_writing::put_bytes;
+use text_writing::put_decimal;
 
 pub mod note;
 
@@ -26,9 +26,9 @@ fn put_refused(out: &mut [u8], number: u32, line: u32) -> usize
     ensures { λ r. ⌜ Wrote (now (out .entry)) 0 (refusedLine number line) (now (out .exit)) r ⌝ }
 {
     let first = put_bytes(out, 0, b"refused\t");
-    let tab = put_decimal(out, first, number);
+    let tab = put_decimal(out, first, number as u64);
     let second = put_bytes(out, tab, b"\t");
-    let end = put_decimal(out, second, line);
+    let end = put_decimal(out, second, line as u64);
     put_bytes(out, end, b"\n")
 }
 

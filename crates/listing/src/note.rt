@@ -3,11 +3,11 @@ ghost use mathlib.Core.Path.{_≡_};
 ghost use mathlib.Core.List.{map};
 ghost use Prim.Native.Nat.{_+_, _≤_};
 ghost use lib.ListN.{length};
-ghost use Rattle.leaves.specs.Lines.{Wrote};
+ghost use Rattle.text.specs.Written.{Wrote};
 ghost use Rattle.listing.specs.Note.{shown, isEnded, ending, lineNote, noteOf};
 use reader::line_numbered;
-use text::put_bytes;
-use text::put_decimal;
+use text_writing::put_bytes;
+use text_writing::put_decimal;
 
 // A byte as it is shown.
 fn show(b: u8) -> u8
@@ -68,7 +68,7 @@ fn put_line(out: &mut [u8], k: u32, line: &[u8]) -> usize
     ensures { λ r. ⌜ Wrote (now (out .entry)) 0 (lineNote k (now (line .entry))) (now (out .exit)) r ⌝ }
 {
     let number = put_bytes(out, 0, b"line ");
-    let colon = put_decimal(out, number, k);
+    let colon = put_decimal(out, number, k as u64);
     let start = put_bytes(out, colon, b": ");
     let end = put_shown(out, start, line);
     put_ending(out, end, is_ended(line))

@@ -6,6 +6,7 @@ use native.Mathlib.Nat.{le-refl}
 use native.Mathlib.Omega.{arith}
 use lib.ListN.{length, getD}
 use Rattle.datatype.specs.Datatype.{size}
+use Rattle.datatype.proofs.Matches.{size-most}
 use Rattle.table.specs.Table.{typeAt}
 use Rattle.entry_code.specs.Code.{routeIn}
 use Rattle.records.specs.Plan.{Sound, AllSound, planOf}
@@ -17,6 +18,15 @@ use Rattle.plans.proofs.Spans.{standing-moved}
 use Rattle.paths.specs.Plan.{Planned}
 use Rattle.two_sheets.specs.TwoSheets.{Both}
 use Rattle.plan_making.specs.Made.{Room, Made}
+
+-- the small arrays of a call have room for a destination record of 128 bytes, the large ones for any
+pub small-room : (ds wd : List ℕ) (k : ℕ) → size (typeAt wd ds k) ≤ 128 → Room ds wd k 256 2048
+small-room ds wd k h = record { for-entries = omega arith; for-words = omega arith; most = omega arith }
+
+pub large-room : {ss ws : List ℕ} {i : ℕ} (ds wd : List ℕ) (k : ℕ) → Both ss ws i ds wd k → Room ds wd k 8192 24576
+large-room ds wd k both =
+    let most : size (typeAt wd ds k) ≤ 4096 = size-most (typeAt wd ds k) (both .destination) in
+    record { for-entries = omega arith; for-words = omega arith; most = omega arith }
 
 -- the words of an entry stand where those behind the ids are kept
 entry-kept : (v w : List ℕ) (k : ℕ) (ws ts wd td : List ℕ) (s d : ℕ) → 512 ≤ k → ((j : ℕ) → 512 ≤ j → getD v j 0 ≡ getD w j 0) → EntryWords w k ws ts wd td s d

@@ -35,8 +35,9 @@ use Rattle.records.specs.Record as one
 use Rattle.records.specs.Records as many
 use Rattle.runs.specs.Run as runs
 use Rattle.runs.specs.Run.{Run, copyingRun, inPlaceRun, plain, answer, after}
-use Rattle.leaves.specs.LeafList as lists
-use Rattle.leaves.specs.LeafList.{answerOf, listAfter}
+use Rattle.leaf_lines.specs.LeafList as lists
+use Rattle.leaves.specs.Call as listing
+use Rattle.leaves.specs.Call.{answerOf, listAfter}
 
 -- ---- what an exercise asks, and what its answer says
 
@@ -143,5 +144,5 @@ rows =
     ∷ []
 
 solved : map (λ (r : Row). solve (r .exercise)) rows ≡ map (λ (r : Row). r .solution) rows
-unfolding rows solve setters.setSize setters.setPrecision setters.setOffset same symbolOf numberNamed leaves.within leaves.leafAt paths.memberNamed paths.hasPath matches.matchAt text.split fields.digits fields.decimal fields.number fields.enumNumber fields.decimalIn fields.eachPrintable fields.name line.column line.order line.pad line.sign line.layoutColumns line.intLine line.bitsLine line.enumLineOf line.valueLineOf line.compoundLineOf line.memberLineOf line.numbers line.arrayLineOf line.lineKind line.lineOf sheet.typeNumbered sheet.isApart sheet.judge sheet.linesFrom sheet.outcomeOf sheet.sheetOf one.reading one.withLeaf one.withLeavesBelow one.kindAt one.raisedBelow one.firstRaising many.joined many.exceptions runs.checksOf runs.stopFrom runs.answer runs.after lists.leafLines lists.leafList lists.answerOf lists.listAfter
+unfolding rows solve setters.setSize setters.setPrecision setters.setOffset same symbolOf numberNamed leaves.within leaves.leafAt paths.memberNamed paths.hasPath matches.matchAt text.split fields.digits fields.decimal fields.number fields.enumNumber fields.decimalIn fields.eachPrintable fields.name line.column line.order line.pad line.sign line.layoutColumns line.intLine line.bitsLine line.enumLineOf line.valueLineOf line.compoundLineOf line.memberLineOf line.numbers line.arrayLineOf line.lineKind line.lineOf sheet.typeNumbered sheet.isApart sheet.judge sheet.linesFrom sheet.outcomeOf sheet.sheetOf one.reading one.withLeaf one.withLeavesBelow one.kindAt one.raisedBelow one.firstRaising many.joined many.exceptions runs.checksOf runs.stopFrom runs.answer runs.after lists.leafLines lists.leafList listing.answerOf listing.listAfter
 solved = refl

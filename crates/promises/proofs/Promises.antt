@@ -1,5 +1,5 @@
 -- Demands 2 and 3 about whole calls, over all records and in every form. Assumes nothing: the types of sheets are well formed (crate sheet).
-use mathlib.Core.Path.{_≡_, refl, sym, ap, ap₂, _∙_, subst, subst₂}
+use mathlib.Core.Path.{_≡_, sym, ap, ap₂, _∙_, subst, subst₂}
 use mathlib.Core.Logic.{_⊎_, inl, inr, ⊎-elim}
 use mathlib.Core.List.{List}
 use mathlib.Core.Option.{some}
@@ -25,11 +25,11 @@ use Rattle.records.proofs.OneLeaf.{arrives}
 use Rattle.records.proofs.OneRecord.{converted-place, read-converted, reading-at, converted-keeps}
 use Rattle.records.proofs.ManyRecords.{record-length, in-none, converted-in, agree-readings, same-converted, same-bytes, returns-quiet, returns-same}
 use Rattle.records.proofs.Matched.{bits-agree, agree-bits}
-use Rattle.runs.specs.Run.{Form, Run, Checked, handled, result, checksOf, checks, answerFor, answer, after, cleared}
+use Rattle.runs.specs.Run.{Form, Run, handled, result, checksOf, checks, answerFor, answer, after, cleared}
 use Rattle.runs.specs.Run.Form.{inPlace}
 use Rattle.runs.specs.Run.Checked.{refused, passed}
 use Rattle.runs.specs.Parts.{convertedBytes, clearedTail, zeros, laterBytes}
-use Rattle.runs.proofs.Checks.{done-is, stop-is, passed-tells, tells-passed, room-behind, refused-early, in-place-checks, table-long}
+use Rattle.runs.proofs.Checks.{done-is, stop-is, refused-or-passed, passed-tells, tells-passed, room-behind, refused-early, in-place-checks, table-long}
 use Rattle.runs.proofs.Exceptions.{handled-quiet, quiet-handled, handled-first, same-handled, handled-number, handled-count}
 use Rattle.runs.proofs.Buffers.{answer-refused, after-refused, answer-is, after-is, after-cases, result-none, result-converted, result-cleared, result-later, result-length}
 use Rattle.runs.proofs.Table.{cleared-zero, cleared-beyond, cleared-length, table-cases}
@@ -45,14 +45,6 @@ done-zero r d = done-is (answer r) (d .done) ∙ ap Done (d .count)
 
 zero-done : (r : Run) → answer r ≡ Done 0 → DoneWithoutException r
 zero-done r e = record { done = ap numberOf e; count = ap (λ (a : Answer). valuesOf a .count) e }
-
--- a check before STOP refuses a run, or none does
-refused-or-passed : (r : Run) → ((a : Answer) × (checks r ≡ refused a)) ⊎ ((S : Datatype) × (D : Datatype) × (checks r ≡ passed S D))
-refused-or-passed r = at (checks r) refl
-  where
-    at : (c : Checked) → checks r ≡ c → ((a : Answer) × (checks r ≡ refused a)) ⊎ ((S : Datatype) × (D : Datatype) × (checks r ≡ passed S D))
-    at (refused a) e = inl (a, e)
-    at (passed S D) e = inr (S, D, e)
 
 refused-before : (r : Run) (a : Answer) → checks r ≡ refused a → RefusedBeforeStop r
 refused-before r a c =
@@ -77,7 +69,7 @@ passed-types r S D t U W c =
 passes : (r : Run) (S D : Datatype) → Types r S D → ¬ (RefusedBeforeStop r) → checks r ≡ passed S D
 passes r S D t n =
     ⊎-elim (λ (x : (a : Answer) × (checks r ≡ refused a)). absurd (n (refused-before r (x .0) (x .1))))
-    (λ (x : (U : Datatype) × (W : Datatype) × (checks r ≡ passed U W)). passed-types r S D t (x .0) (x .1) (x .2)) (refused-or-passed r)
+    (λ (x : (U : Datatype) × (W : Datatype) × (checks r ≡ passed U W)). passed-types r S D t (x .0) (x .1) (x .2)) (refused-or-passed (checks r))
 
 done-passes : (r : Run) (S D : Datatype) → Types r S D → IsDone r → checks r ≡ passed S D
 done-passes r S D t d = passes r S D t (λ n. omega (arith, n .refused))
@@ -134,7 +126,7 @@ module _ (r q : Run) (s : SameCall r q) where
       ⊎-elim (λ (x : (a : Answer) × (checks r ≡ refused a)). same-answer r q (equal-refused (x .0) (x .1)))
       (λ (x : (S : Datatype) × (D : Datatype) × (checks r ≡ passed S D)).
       absurd (⊎-elim (passed-not-before r (x .0) (x .1) (x .2)) (passed-not-before q (x .0) (x .1) (sym same-checks ∙ x .2)) n))
-      (refused-or-passed r)
+      (refused-or-passed (checks r))
 
   module _ (S D : Datatype) where
     equal-passed : checks r ≡ passed S D → Agree S D (r .count) (r .source) (q .source) → answer r ≡ answer q
@@ -148,7 +140,7 @@ module _ (r q : Run) (s : SameCall r q) where
     equal-answers t agree =
         ⊎-elim (λ (x : (a : Answer) × (checks r ≡ refused a)). equal-refused (x .0) (x .1))
         (λ (x : (X : Datatype) × (Y : Datatype) × (checks r ≡ passed X Y)). equal-passed (passed-types r S D t (x .0) (x .1) (x .2)) agree)
-        (refused-or-passed r)
+        (refused-or-passed (checks r))
 
     module _ (c : checks r ≡ passed S D) where
       other : checks q ≡ passed S D
@@ -206,7 +198,7 @@ module _ (r : Run) (form : r .form ≡ inPlace) where
       ⊎-elim (λ (x : (a : Answer) × (checks r ≡ refused a)). answer-refused r (x .0) (x .1) ∙ sym (answer-refused (fromCopy r) (x .0) (sym e ∙ x .1)))
       (λ (x : (S : Datatype) × (D : Datatype) × (checks r ≡ passed S D)).
       answer-is r (x .0) (x .1) (x .2) ∙ sym (answer-is (fromCopy r) (x .0) (x .1) (sym e ∙ x .2)))
-      (refused-or-passed r)
+      (refused-or-passed (checks r))
 
   room-number : checks r ≡ refused Room → answerNumber r ≡ 7
   room-number c = ap numberOf (answer-refused r Room c)
@@ -298,7 +290,7 @@ module _ (r : Run) where
       ⊎-elim (λ (x : (a : Answer) × (checks r ≡ refused a)). inr (after-refused r (x .0) (x .1)))
       (λ (x : (S : Datatype) × (D : Datatype) × (checks r ≡ passed S D)).
       ⊎-elim (λ (y : (k : ℕ) × (answer r ≡ Done k)). inl (ap numberOf (y .1))) (λ y. inr y) (after-cases r (x .0) (x .1) (x .2)))
-      (refused-or-passed r)
+      (refused-or-passed (checks r))
 
   -- a run that is done has types, and its buffer is the result
   done-result : IsDone r → (S : Datatype) × (D : Datatype) × (checks r ≡ passed S D) × (after r ≡ result (r .form) S D (r .count) (r .source) (r .background))
@@ -306,7 +298,7 @@ module _ (r : Run) where
       ⊎-elim (λ (x : (a : Answer) × (checks r ≡ refused a)). absurd (let n = refused-before r (x .0) (x .1) in omega (arith, n .refused)))
       (λ (x : (S : Datatype) × (D : Datatype) × (checks r ≡ passed S D)).
       (x .0, x .1, x .2, after-is r (x .0) (x .1) (x .2) (answerFields r .count) (done-is (answer r) d)))
-      (refused-or-passed r)
+      (refused-or-passed (checks r))
 
   kept-length : length (after r) ≡ length (before r)
   kept-length =
@@ -335,7 +327,7 @@ module _ (r : Run) where
       (answer-is r (x .0) (x .1) (x .2)
       ∙ quiet-handled (x .0) (x .1) (r .handling) (r .count) (readings (x .0) (x .1) (r .source))
       (in-none (x .0) (x .1) (r .count) (readings (x .0) (x .1) (r .source)) (λ i l. absurd (omega arith))))))
-      (refused-or-passed r)
+      (refused-or-passed (checks r))
 
   module _ (S D : Datatype) (c : checks r ≡ passed S D) where
     kept-count : IsDone r → answerFields r .count ≡ exceptions S D (r .count) (readings S D (r .source))

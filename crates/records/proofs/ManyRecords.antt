@@ -39,7 +39,7 @@ module _ (f : ℕ → List ℕ) (w : ℕ) where
       (λ l. joined-at n i (f n ++ t) below l)
       (eq-or-lt-of-le (le-of-suc-le-suc k)))
 
-joined-alike : (f g : ℕ → List ℕ) (n : ℕ) → ((i : ℕ) → i < n → f i ≡ g i) → joined f n ≡ joined g n
+pub joined-alike : (f g : ℕ → List ℕ) (n : ℕ) → ((i : ℕ) → i < n → f i ≡ g i) → joined f n ≡ joined g n
 unfolding joined
 joined-alike f g zero h = refl
 joined-alike f g (suc n) h = rw (joined-alike f g n (λ i k. h i (omega arith)), h n (le-refl (suc n)))

@@ -10,7 +10,7 @@ use lib.Dec.{leb}
 use lib.ListN.{length}
 use borrow.Author.Tests.{leb-true, le-leb}
 use Rattle.answer.specs.declared.Answer.{Answer}
-use Rattle.answer.specs.declared.Answer.the-variants.{Done, Handling, Table, Source, Destination, Path, Count, Room, Stop, Range}
+use Rattle.answer.specs.declared.Answer.the-variants.{Done, Handling, Table, Source, Destination, Path, Count, Room, Stop, Range, Channel, Full}
 use Rattle.answer.specs.Answer.{numberOf, valuesOf}
 use Rattle.datatype.specs.Datatype.{Datatype, size}
 use Rattle.datatype.specs.Paths.{hasPath}
@@ -38,6 +38,8 @@ done-is Count e = no-number e
 done-is Room e = no-number e
 done-is (Stop i at kind) e = no-number e
 done-is Range e = no-number e
+done-is Channel e = no-number e
+done-is Full e = no-number e
 
 -- number 8 is STOP, with its three fields
 pub stop-is : (a : Answer) → numberOf a ≡ 8 → a ≡ Stop (valuesOf a .«record») (valuesOf a .at) (valuesOf a .kind)
@@ -51,20 +53,28 @@ stop-is Count e = absurd (omega (arith, e))
 stop-is Room e = absurd (omega (arith, e))
 stop-is (Stop i at kind) e = refl
 stop-is Range e = absurd (omega (arith, e))
+stop-is Channel e = absurd (omega (arith, e))
+stop-is Full e = absurd (omega (arith, e))
 
--- ---- a run that passes
+-- ---- refused, or passed
+
+pub refused-or-passed : (c : Checked) → ((a : Answer) × (c ≡ refused a)) ⊎ ((S : Datatype) × (D : Datatype) × (c ≡ passed S D))
+refused-or-passed (refused a) = inl (a, refl)
+refused-or-passed (passed S D) = inr (S, D, refl)
 
 no-pass : {A : Type 0} {a : Answer} {S D : Datatype} → refused a ≡ passed S D → A
 no-pass e = let z : _≡_ {A = ℕ} 0 1 = cc in absurd (omega arith)
 
-required : (t : Bool) (a : Answer) (c : Checked) {S D : Datatype} → require t a c ≡ passed S D → (t ≡ true) × (c ≡ passed S D)
+pub required : (t : Bool) (a : Answer) (c : Checked) {S D : Datatype} → require t a c ≡ passed S D → (t ≡ true) × (c ≡ passed S D)
 required true a c e = (refl, e)
 required false a c e = no-pass e
 
-sheet-read : (x : Sheet) (a : ℕ → Answer) (f : Datatype → Checked) {S D : Datatype} → withSheet x a f ≡ passed S D
+pub sheet-read : (x : Sheet) (a : ℕ → Answer) (f : Datatype → Checked) {S D : Datatype} → withSheet x a f ≡ passed S D
     → (T : Datatype) × (x ≡ ofType T) × (f T ≡ passed S D)
 sheet-read (ofType T) a f e = (T, refl, e)
 sheet-read (faultyAt k) a f e = no-pass e
+
+-- ---- a run that passes
 
 -- what is known of a run that no check before STOP refuses
 pub record Passed (r : Run) (S D : Datatype) : Type 0 where
@@ -111,33 +121,38 @@ room-in-place n s d x y e =
 
 -- ---- a run that is refused
 
+-- P holds of every refusal
+abbrev pub Refusals : (Answer → Type 0) → Checked → Type 0
+Refusals P (refused a) = P a
+Refusals P (passed S D) = Unit {0}
+
+module _ (P : Answer → Type 0) where
+  pub require-refuses : (t : Bool) (a : Answer) (c : Checked) → (t ≡ false → P a) → Refusals P c → Refusals P (require t a c)
+  require-refuses true a c h g = g
+  require-refuses false a c h g = h refl
+
+  pub sheet-refuses : (x : Sheet) (a : ℕ → Answer) (f : Datatype → Checked) → ((k : ℕ) → P (a k)) → ((T : Datatype) → x ≡ ofType T → Refusals P (f T))
+      → Refusals P (withSheet x a f)
+  sheet-refuses (ofType T) a f h g = g T refl
+  sheet-refuses (faultyAt k) a f h g = h k
+
 -- "Numbers of refusal, in the order of checks": those before STOP are 1 to 7
-abbrev Early : Checked → Type 0
-Early (refused a) = (1 ≤ numberOf a) × (numberOf a ≤ 7)
-Early (passed S D) = Unit {0}
+abbrev Early : Answer → Type 0
+Early a = (1 ≤ numberOf a) × (numberOf a ≤ 7)
 
-require-early : (t : Bool) (a : Answer) (c : Checked) → Early (refused a) → Early c → Early (require t a c)
-require-early true a c h g = g
-require-early false a c h g = h
-
-sheet-early : (x : Sheet) (a : ℕ → Answer) (f : Datatype → Checked) → ((k : ℕ) → Early (refused (a k))) → ((T : Datatype) → Early (f T))
-    → Early (withSheet x a f)
-sheet-early (ofType T) a f h g = g T
-sheet-early (faultyAt k) a f h g = h k
-
-checks-early : (r : Run) → Early (checks r)
+checks-early : (r : Run) → Refusals Early (checks r)
 unfolding checksOf
 checks-early r =
-    require-early (leb (r .handling) 1) Handling _ (omega arith)
-    (require-early (leb 8192 (length (r .table))) Table _ (omega arith)
-    (sheet-early (sheetOf (r .sourceSheet)) Source _ (λ k. omega arith)
-    (λ S. sheet-early (sheetOf (r .destinationSheet)) Destination _ (λ k. omega arith)
-    (λ D. require-early (hasPath S D) Path _ (omega arith)
-    (require-early (leb (r .count) 65536) Count _ (omega arith)
-    (require-early (hasRoom (r .form) (r .count) (size S) (size D) (length (r .source)) (length (r .background))) Room (passed S D) (omega arith) tt))))))
+    require-refuses Early (leb (r .handling) 1) Handling _ (λ e. omega arith)
+    (require-refuses Early (leb 8192 (length (r .table))) Table _ (λ e. omega arith)
+    (sheet-refuses Early (sheetOf (r .sourceSheet)) Source _ (λ k. omega arith)
+    (λ S s. sheet-refuses Early (sheetOf (r .destinationSheet)) Destination _ (λ k. omega arith)
+    (λ D d. require-refuses Early (hasPath S D) Path _ (λ e. omega arith)
+    (require-refuses Early (leb (r .count) 65536) Count _ (λ e. omega arith)
+    (require-refuses Early (hasRoom (r .form) (r .count) (size S) (size D) (length (r .source)) (length (r .background))) Room (passed S D) (λ e. omega arith) tt))))))
 
 pub refused-early : (r : Run) (a : Answer) → checks r ≡ refused a → (1 ≤ numberOf a) × (numberOf a ≤ 7)
-refused-early r a e = subst Early e (checks-early r)
+refused-early r a e = subst (Refusals Early) e (checks-early r)
 
 -- ---- in place, and copying from a copy with the same background: only the room that is asked for differs
 

@@ -2,3 +2,4 @@ pub mod Checks
 pub mod Exceptions
 pub mod Buffers
 pub mod Table
+pub mod Refusals

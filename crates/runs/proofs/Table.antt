@@ -7,7 +7,7 @@ use native.Mathlib.Omega.{arith}
 use lib.ListN.{length, take, drop, replicate, length-append, length-drop, length-replicate}
 use lib.Seq.{take-at, drop-at, drop-drop}
 use Rattle.answer.specs.declared.Answer.{Answer}
-use Rattle.answer.specs.declared.Answer.the-variants.{Done, Handling, Table, Source, Destination, Path, Count, Room, Stop, Range}
+use Rattle.answer.specs.declared.Answer.the-variants.{Done, Handling, Table, Source, Destination, Path, Count, Room, Stop, Range, Channel, Full}
 use Rattle.answer.specs.Answer.{numberOf}
 use Rattle.runs.specs.Run.{cleared, tableAfter}
 
@@ -59,3 +59,5 @@ table-cases Count t = inr (inr (omega arith), refl)
 table-cases Room t = inr (inr (omega arith), refl)
 table-cases (Stop i at kind) t = inr (inr (omega arith), refl)
 table-cases Range t = inr (inr (omega arith), refl)
+table-cases Channel t = inr (inr (omega arith), refl)
+table-cases Full t = inr (inr (omega arith), refl)

@@ -1,3 +1,4 @@
 pub mod Run
 pub mod Parts
 pub mod FirstException
+pub mod Refusals

@@ -6,7 +6,7 @@ use Prim.Native.Nat.{ℕ, zero, suc, _*_, max}
 use lib.Dec.{leb}
 use lib.ListN.{length, drop, replicate}
 use Rattle.answer.specs.declared.Answer.{Answer}
-use Rattle.answer.specs.declared.Answer.the-variants.{Done, Handling, Table, Source, Destination, Path, Count, Room, Stop, Range}
+use Rattle.answer.specs.declared.Answer.the-variants.{Done, Handling, Table, Source, Destination, Path, Count, Room, Stop, Range, Channel, Full}
 use Rattle.datatype.specs.Datatype.{Datatype, size}
 use Rattle.datatype.specs.Symbols.{onSome}
 use Rattle.datatype.specs.Paths.{hasPath}
@@ -133,6 +133,8 @@ ifDone Count new old = old
 ifDone Room new old = old
 ifDone (Stop i at kind) new old = old
 ifDone Range new old = old
+ifDone Channel new old = old
+ifDone Full new old = old
 
 unfoldable pub after : Run → List ℕ
 after r =
@@ -159,6 +161,8 @@ tableAfter Count table = cleared table
 tableAfter Room table = cleared table
 tableAfter (Stop i at kind) table = cleared table
 tableAfter Range table = cleared table
+tableAfter Channel table = cleared table
+tableAfter Full table = cleared table
 
 -- ---- what each converting form promises
 

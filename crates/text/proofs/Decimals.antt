@@ -1,19 +1,17 @@
--- Numbers in decimal: what is written is read, and how it is written. Assumes nothing.
-use borrow.Author.Needs.{needs}
-use borrow.Author.Tests.{lt-ltb, le-ltb, ltb-true, ltb-false, le-leb}
-use mathlib.Core.Path.{_≡_, refl, sym, ap, ap₂, _∙_}
+-- Numbers in decimal: their digits, and that what is written is read. Assumes nothing.
+use borrow.Author.Tests.{lt-ltb, le-ltb, ltb-true, ltb-false, le-leb, eq-eqb, ne-eqb}
+use mathlib.Core.Path.{_≡_, refl, sym, ap, _∙_}
 use mathlib.Core.Bool.{Bool, true, false, cond}
-use mathlib.Core.List.{List, [], _∷_, _++_, append-assoc}
-use mathlib.Core.Option.{some}
-use Prim.Native.Nat.{ℕ, zero, suc, _+_, _-_, _*_, _/_, _%_, _<_, _≤_}
-use native.Mathlib.Nat.{not-suc-le-zero, le-of-eq, add-suc}
+use mathlib.Core.List.{List, [], _∷_, _++_}
+use mathlib.Core.Option.{none, some}
+use Prim.Native.Nat.{ℕ, zero, suc, _+_, _-_, _*_, _/_, _%_, _^_, _<_, _≤_}
+use native.Mathlib.Nat.{not-suc-le-zero, pow-suc}
 use native.Mathlib.Numerals.{add-one}
 use native.Mathlib.Omega.{arith}
 use lib.Dec.{ltb}
-use lib.ListN.{length, getD, set, take, drop, length-append, length-set}
-use lib.Seq.{paste, paste-zero, paste-suc, take-all, take-set-le, drop-cons, getD-set-same, drop-set-lt, append-snoc}
-use Rattle.text.specs.Field.{when, _>>=_, isDigit, digits, decimal, decimalIn, decimalOf}
-use Rattle.text.proofs.Numbers.{one-digit, zero-first, no-zero}
+use lib.ListN.{length, length-append}
+use lib.IntN.{ℤ, pos, negsuc, natAbs}
+use Rattle.text.specs.Field.{when, _>>=_, isDigit, digits, decimal, decimalIn, decimalOf, signedOf}
 
 -- ---- the digits of a number
 
@@ -26,7 +24,7 @@ module _ (P : ℕ → Type 0) (small : (n : ℕ) → n < 10 → P n) (large : (n
     go true e r = small n (ltb-true n 10 e)
     go false e r = large n (ltb-false n 10 e) (r (ltb-false n 10 e))
 
-  by-digits : (n : ℕ) → P n
+  pub by-digits : (n : ℕ) → P n
   by-digits n = below (suc n) n (omega arith)
 
 -- enough fuel is enough
@@ -55,6 +53,40 @@ module _ (n : ℕ) where
 
   pub length-large : 10 ≤ n → length (decimalOf n) ≡ length (decimalOf (n / 10)) + 1
   length-large h = ap length (decimal-large h) ∙ length-append (decimalOf (n / 10)) ((48 + n % 10) ∷ [])
+
+-- ---- at most so many digits
+
+one-more : (k n : ℕ) (t : Bool) → ltb n 10 ≡ t → (10 ≤ n → length (decimalOf (n / 10)) ≤ k) → length (decimalOf n) ≤ suc k
+one-more k n true e h = omega (arith, length-small n (ltb-true n 10 e))
+one-more k n false e h = let l : 10 ≤ n = ltb-false n 10 e in omega (arith, length-large n l, h l)
+
+pub digits-most : (k n : ℕ) → n < 10 ^ suc k → length (decimalOf n) ≤ suc k
+digits-most zero n l = one-more 0 n (ltb n 10) refl (λ h. absurd (omega arith))
+digits-most (suc k) n l =
+    let p : n < 10 ^ suc k * 10 = rw (← pow-suc 10 (suc k)) l in
+    one-more (suc k) n (ltb n 10) refl (λ h. digits-most k (n / 10) (omega arith))
+
+-- and a sign
+pub signed-most : (k : ℕ) (z : ℤ) → natAbs z < 10 ^ suc k → length (signedOf z) ≤ suc (suc k)
+signed-most k (pos n) l = omega (arith, digits-most k n l)
+signed-most k (negsuc n) l = omega (arith, digits-most k (suc n) l)
+
+-- ---- a number with and without a zero in front
+
+pub one-digit : (b : ℕ) (bs : List ℕ) → b ≡ 48 → length (b ∷ bs) ≡ 1 → decimal (b ∷ bs) ≡ some 0
+unfolding decimal digits
+one-digit b [] e h = simp e
+one-digit b (c ∷ cs) e h = absurd (omega arith)
+
+pub zero-first : (b : ℕ) (bs : List ℕ) → b ≡ 48 → (length (b ∷ bs) ≡ 1 → ⊥) → decimal (b ∷ bs) ≡ none
+unfolding decimal
+zero-first b [] e h = absurd (h refl)
+zero-first b (c ∷ cs) e h = simp (eq-eqb _ _ e)
+
+pub no-zero : (b : ℕ) (bs : List ℕ) → (b ≡ 48 → ⊥) → decimal (b ∷ bs) ≡ digits 0 (b ∷ bs)
+unfolding decimal
+no-zero b [] h = refl
+no-zero b (c ∷ cs) h = simp (ne-eqb _ _ h)
 
 -- ---- what is written is read
 
@@ -90,75 +122,3 @@ read-written =
     ap decimal (decimal-large n b)
     ∙ decimal-last (decimalOf (n / 10)) (n / 10) (48 + n % 10) r (omega arith) (omega arith) (omega arith)
     ∙ ap some p)
-
--- ---- writing from the last digit up
-
--- the i last digits of m
-unfoldable pub lastDigits : ℕ → ℕ → List ℕ
-lastDigits zero m = []
-lastDigits (suc i) m = lastDigits i (m / 10) ++ ((48 + m % 10) ∷ [])
-
-length-last : (i m : ℕ) → length (lastDigits i m) ≡ i
-unfolding lastDigits
-length-last zero m = refl
-length-last (suc i) m = length-append (lastDigits i (m / 10)) ((48 + m % 10) ∷ []) ∙ omega (arith, length-last i (m / 10))
-
-pub all-digits : (n : ℕ) → lastDigits (length (decimalOf n)) n ≡ decimalOf n
-unfolding lastDigits
-all-digits =
-    by-digits (λ n. lastDigits (length (decimalOf n)) n ≡ decimalOf n)
-    (λ n b. let p : 48 + n % 10 ≡ 48 + n = omega arith in rw (decimal-small n b) (ap (λ (x : ℕ). x ∷ []) p))
-    (λ n b r.
-    let p : length (decimalOf n) ≡ suc (length (decimalOf (n / 10))) = omega (arith, length-large n b) in
-    ap (λ (l : ℕ). lastDigits l n) p ∙ ap (λ (l : List ℕ). l ++ ((48 + n % 10) ∷ [])) r ∙ sym (decimal-large n b))
-
--- the element x behind a paste of all of t
-paste-last : (d : List ℕ) (at j : ℕ) (t : List ℕ) (x : ℕ) → length t ≡ j → at + j < length d
-    → paste (set d (at + j) x) at t j ≡ paste d at (t ++ (x ∷ [])) (suc j)
-paste-last d at j t x e h =
-    let rest : drop (at + j) (set d (at + j) x) ≡ x ∷ drop (suc (at + j)) d =
-    drop-cons (set d (at + j) x) (at + j) 0 (rw length-set h)
-    ∙ ap₂ (λ (y : ℕ) (l : List ℕ). y ∷ l) (getD-set-same d (at + j) x 0 h) (drop-set-lt (suc (at + j)) d (at + j) x (omega arith)) in
-    rw (
-      take-set-le at d (at + j) x (omega arith),
-      take-all j t (le-of-eq e),
-      rest,
-      take-all (suc j) (t ++ (x ∷ [])) (le-of-eq (length-append t (x ∷ []) ∙ omega arith)),
-      add-suc,
-      ← append-assoc,
-    )
-    (sym (append-snoc (take at d ++ t) x (drop (suc (at + j)) d)))
-
--- a turn of the loop that writes: the last of i digits goes to its place
-pub digit-written : (d w : List ℕ) (at i m : ℕ) → paste d at (lastDigits i m) i ≡ w → 0 < i → at + i ≤ length d
-    → paste (set d (at + (i - 1)) (48 + m % 10)) at (lastDigits (i - 1) (m / 10)) (i - 1) ≡ w
-unfolding lastDigits
-digit-written d w at i m inv h l =
-    let p : i ≡ suc (i - 1) = omega arith in
-    paste-last d at (i - 1) (lastDigits (i - 1) (m / 10)) (48 + m % 10) (length-last (i - 1) (m / 10)) (omega arith) ∙ (rw p at inv)
-
--- a turn of the loop that copies
-pub byte-written : (d₀ d : List ℕ) (at : ℕ) (w : List ℕ) (k : ℕ) → d ≡ paste d₀ at w k → at + k < length d₀ → k < length w
-    → set d (at + k) (getD w k 0) ≡ paste d₀ at w (k + 1)
-byte-written d₀ d at w k inv h l = rw (inv, add-one) (paste-suc d₀ at w k 0 h l)
-
--- ---- what the loops have still to do
-
-module _ (m k l : ℕ) (inv : k + length (decimalOf m) ≡ l + 1) where
-  pub length-next : 9 < m → k + 1 + length (decimalOf (m / 10)) ≡ l + 1
-  length-next h = omega (arith, length-large m h)
-
-  pub length-done : m ≤ 9 → k ≡ l
-  length-done h = omega (arith, length-small m (omega arith))
-
-pub digits-start : (d : List ℕ) (at n l : ℕ) → l ≡ length (decimalOf n) → paste d at (lastDigits l n) l ≡ paste d at (decimalOf n) (length (decimalOf n))
-digits-start d at n l e = rw (e, all-digits)
-
-pub digits-done : (d w : List ℕ) (at i m : ℕ) → paste d at (lastDigits i m) i ≡ w → i ≡ 0 → d ≡ w
-unfolding lastDigits
-digits-done d w at i m inv e = paste-zero d at [] ∙ (rw e at inv)
-
-pub bytes-done : (d₀ d : List ℕ) (at : ℕ) (w : List ℕ) (k : ℕ) → d ≡ paste d₀ at w k → k ≡ length w → d ≡ paste d₀ at w (length w)
-bytes-done d₀ d at w k inv e = rw e at inv
-
-pub ruleset length-laws = (needs, length-next, length-done)

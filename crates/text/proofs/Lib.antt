@@ -1,5 +1,5 @@
 pub mod Until
 pub mod Places
 pub mod Scans
-pub mod Numbers
 pub mod Decimals
+pub mod Written

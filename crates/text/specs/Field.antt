@@ -6,6 +6,7 @@ use Prim.Native.Nat.{ℕ, zero, suc, _+_, _-_, _*_, _/_, _%_}
 use lib.ListN.{length}
 use lib.Dec.{leb, ltb, eqb}
 use lib.IntN.{ℤ, pos, negsuc}
+use Rattle.text.specs.Text.{minus}
 
 -- ---- answers that may be missing
 
@@ -49,7 +50,7 @@ negative (suc n) = some (negsuc n)
 
 unfoldable pub enumNumber : List ℕ → Option ℤ
 enumNumber [] = none
-enumNumber (b ∷ bs) = cond (eqb b 45) (decimal bs >>= negative) (decimal (b ∷ bs) >>= λ n. some (pos n))
+enumNumber (b ∷ bs) = cond (eqb b minus) (decimal bs >>= negative) (decimal (b ∷ bs) >>= λ n. some (pos n))
 
 -- n in decimal; the first argument bounds its digits, and n + 1 is enough
 unfoldable pub decimalIn : ℕ → ℕ → List ℕ
@@ -60,6 +61,11 @@ decimalIn (suc k) n =
 
 abbrev pub decimalOf : ℕ → List ℕ
 decimalOf n = decimalIn (n + 1) n
+
+-- a signed number in decimal
+abbrev pub signedOf : ℤ → List ℕ
+signedOf (pos n) = decimalOf n
+signedOf (negsuc n) = minus ∷ decimalOf (suc n)
 
 -- ---- names
 

@@ -1,3 +1,4 @@
 pub mod Text
 pub mod Field
 pub mod Place
+pub mod Written

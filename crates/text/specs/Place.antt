@@ -7,15 +7,13 @@ use lib.ListN.{length, getD, drop}
 use lib.Dec.{leb, ltb, eqb}
 use lib.IntN.{ℤ, pos, negsuc}
 use Rattle.text.specs.Text.{tab, newline, split}
-use Rattle.text.specs.Field.{when, _>>=_, decimal, number, enumNumber, name}
+use Rattle.text.specs.Field.{number, enumNumber, name}
 use Rattle.text.specs.declared.Field.{Field}
 use Rattle.text.specs.declared.Field.the-variants.{Number, Fault}
 use Rattle.text.specs.declared.Name.{Name}
 use Rattle.text.specs.declared.Name.the-variants.{Text, Fault as NoName}
 use Rattle.text.specs.declared.Whole.{Whole}
 use Rattle.text.specs.declared.Whole.the-variants as whole
-use Rattle.text.specs.declared.Decimal.{Decimal}
-use Rattle.text.specs.declared.Decimal.the-variants as decimal
 
 -- ---- fields and lines
 
@@ -85,17 +83,6 @@ asWhole none e = whole.Fault
 
 unfoldable pub wholeAt : List ℕ → ℕ → Whole
 wholeAt s at = asWhole (enumNumber (fieldAt s at)) (fieldEnd s at)
-
--- what the code's own reader of decimal numbers answers: a number that is at most m
-abbrev pub upTo : ℕ → Option ℕ → Option ℕ
-upTo m o = o >>= λ n. when (leb n m) n
-
-abbrev pub asDecimal : Option ℕ → ℕ → Decimal
-asDecimal (some n) e = decimal.Value n e
-asDecimal none e = decimal.Fault
-
-unfoldable pub decimalAt : ℕ → List ℕ → ℕ → Decimal
-decimalAt m s at = asDecimal (upTo m (decimal (fieldAt s at))) (fieldEnd s at)
 
 -- two texts are the same, byte by byte
 unfoldable pub sameBytes : List ℕ → List ℕ → Bool

@@ -20,6 +20,9 @@ tab = 9
 abbrev pub newline : ℕ
 newline = 10
 
+abbrev pub minus : ℕ
+minus = 45
+
 -- b before the first piece
 abbrev pub before : ℕ → List (List ℕ) → List (List ℕ)
 before b [] = (b ∷ []) ∷ []

@@ -1,10 +1,7 @@
-// Fields of a text, read at a place: where they end and what they say. Bytes and decimal numbers, written to a place.
+// Text as bytes: its lines, its fields and what they say, numbers in decimal, bytes written to a place. The code reads words and names at a place.
 ghost use mathlib.Core.Path.{_≡_};
-ghost use Prim.Native.Nat.{_+_, _≤_, _<_};
-ghost use lib.ListN.{length};
-ghost use lib.Seq.{paste};
-ghost use Rattle.text.specs.Field.{decimalOf};
-ghost use Rattle.text.specs.Place.{endsField, fieldAt, fieldEnd, byteAt, tabAt, newlineAt, numberAt, nameAt, wholeAt, decimalAt, sameBytes};
+ghost use Prim.Native.Nat.{_<_};
+ghost use Rattle.text.specs.Place.{endsField, fieldAt, fieldEnd, byteAt, tabAt, newlineAt, nameAt, sameBytes};
 
 // The number of a field, and where the field ends.
 pub enum Field {
@@ -24,14 +21,8 @@ pub enum Whole {
     Fault,
 }
 
-// A decimal number, and where its field ends.
-enum Decimal {
-    Value(u64, usize),
-    Fault,
-}
-
 // Whether the byte b stands at a place.
-fn is_byte(s: &[u8], at: usize, b: u8) -> bool
+pub fn is_byte(s: &[u8], at: usize, b: u8) -> bool
     requires { ⌜ 0 < b ⌝ }
     ensures { λ r. ⌜ r ≡ byteAt (now (s .entry)) at b ⌝ }
 {
@@ -120,110 +111,4 @@ pub fn name_at(s: &[u8], at: usize) -> Name
         i += 1;
     }
     Name::Text(end)
-}
-
-// The decimal number of a field, where it is at most limit.
-fn decimal_at(s: &[u8], at: usize, limit: u64) -> Decimal
-    requires { ⌜ 9 ≤ limit ⌝ }
-    ensures { λ r. ⌜ r ≡ decimalAt limit (now (s .entry)) at ⌝ }
-{
-    let end = field_end(s, at);
-    if end == at {
-        return Decimal::Fault;
-    }
-    if s[at] == 48 {
-        if end - at == 1 {
-            return Decimal::Value(0, end);
-        }
-        return Decimal::Fault;
-    }
-    let mut v: u64 = 0;
-    let mut i = at;
-    while i < end {
-        let b = s[i];
-        if b < 48 {
-            return Decimal::Fault;
-        }
-        if 57 < b {
-            return Decimal::Fault;
-        }
-        let d = (b - 48) as u64;
-        if (limit - d) / 10 < v {
-            return Decimal::Fault;
-        }
-        v = v * 10 + d;
-        i += 1;
-    }
-    Decimal::Value(v, end)
-}
-
-// The number at a place: at most 4,294,967,295.
-pub fn number_at(s: &[u8], at: usize) -> Field
-    ensures { λ r. ⌜ r ≡ numberAt (now (s .entry)) at ⌝ }
-{
-    let Decimal::Value(n, end) = decimal_at(s, at, 4294967295) else {
-        return Field::Fault;
-    };
-    Field::Number(n as u32, end)
-}
-
-// The number of an enum's value at a place: from -2^63 up to 2^64 - 1.
-pub fn whole_at(s: &[u8], at: usize) -> Whole
-    ensures { λ r. ⌜ r ≡ wholeAt (now (s .entry)) at ⌝ }
-{
-    if is_byte(s, at, 45) {
-        let Decimal::Value(n, end) = decimal_at(s, at + 1, 9223372036854775808) else {
-            return Whole::Fault;
-        };
-        if n == 0 {
-            return Whole::Fault;
-        }
-        return Whole::Number(true, n - 1, end);
-    }
-    let Decimal::Value(n, end) = decimal_at(s, at, 18446744073709551615) else {
-        return Whole::Fault;
-    };
-    Whole::Number(false, n, end)
-}
-
-// How many digits n has.
-pub fn decimal_len(n: u32) -> usize
-    ensures { λ r. ⌜ r ≡ length (decimalOf n) ⌝ }
-{
-    let mut m = n;
-    let mut k: usize = 1;
-    while 9 < m {
-        m = m / 10;
-        k += 1;
-    }
-    k
-}
-
-// Writes n in decimal, and answers the next place.
-pub fn put_decimal(d: &mut [u8], at: usize, n: u32) -> usize
-    requires { ⌜ at + length (decimalOf n) ≤ length (now d) ⌝ }
-    ensures { λ r. ⌜ (r ≡ at + length (decimalOf n)) × (now (d .exit) ≡ paste (now (d .entry)) at (decimalOf n) (length (decimalOf n))) ⌝ }
-{
-    let len = decimal_len(n);
-    let mut m = n;
-    let mut i = len;
-    while 0 < i {
-        i -= 1;
-        d[at + i] = 48 + (m % 10) as u8;
-        m = m / 10;
-    }
-    at + len
-}
-
-// Writes w, and answers the next place.
-pub fn put_bytes(d: &mut [u8], at: usize, w: &[u8]) -> usize
-    requires { ⌜ at + length (now w) ≤ length (now d) ⌝ }
-    ensures { λ r. ⌜ (r ≡ at + length (now (w .entry))) × (now (d .exit) ≡ paste (now (d .entry)) at (now (w .entry)) (length (now (w .entry)))) ⌝ }
-{
-    let mut k: usize = 0;
-    while k < w.len() {
-        d[at + k] = w[k];
-        k += 1;
-    }
-    at + k
 }

@@ -78,6 +78,22 @@ enum-told-6 c = search needs
 bare-requires-6 : tie.Need-bare-requires-6
 bare-requires-6 c κs = search needs
 
+-- src/lib.rt:101:26
+enum-told-7 : tie.Need-enum-told-7
+enum-told-7 c = search needs
+
+-- src/lib.rt:101:26
+bare-requires-7 : tie.Need-bare-requires-7
+bare-requires-7 c κs = search needs
+
+-- src/lib.rt:102:26
+enum-told-8 : tie.Need-enum-told-8
+enum-told-8 c = search needs
+
+-- src/lib.rt:102:26
+bare-requires-8 : tie.Need-bare-requires-8
+bare-requires-8 c κs = search needs
+
 -- src/lib.rt:75:1
 returns : tie.Need-returns
 returns c = cc
@@ -118,6 +134,14 @@ returns-9 c = search needs
 returns-10 : tie.Need-returns-10
 returns-10 c = search needs
 
+-- src/lib.rt:75:1
+returns-11 : tie.Need-returns-11
+returns-11 c = search needs
+
+-- src/lib.rt:75:1
+returns-12 : tie.Need-returns-12
+returns-12 c = search needs
+
 pub values-of-spec : {M : Type 1} → statement M
 values-of-spec =
     tie.close
@@ -140,6 +164,10 @@ values-of-spec =
     bare-requires-5
     enum-told-6
     bare-requires-6
+    enum-told-7
+    bare-requires-7
+    enum-told-8
+    bare-requires-8
     returns
     returns-2
     returns-3
@@ -149,4 +177,6 @@ values-of-spec =
     returns-7
     returns-8
     returns-9
-    returns-10)
+    returns-10
+    returns-11
+    returns-12)

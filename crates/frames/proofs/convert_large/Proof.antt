@@ -1,6 +1,7 @@
 -- `frames::convert_large` meets its contract. Assumes nothing.
 use borrow.Author.Needs.{needs}
-use Rattle.frames.proofs.Framed.{large-room, sized-records, plan-job}
+use Rattle.plan_making.proofs.Making.{large-room}
+use Rattle.frames.proofs.Framed.{sized-records, plan-job}
 use Rattle.frames.proofs.convert_large.Statement.{statement}
 use Rattle.frames.proofs.convert_large.Tie as tie
 

@@ -1,6 +1,7 @@
 -- `frames::convert_small` meets its contract. Assumes nothing.
 use borrow.Author.Needs.{needs}
-use Rattle.frames.proofs.Framed.{small-room, sized-records, plan-job}
+use Rattle.plan_making.proofs.Making.{small-room}
+use Rattle.frames.proofs.Framed.{sized-records, plan-job}
 use Rattle.frames.proofs.convert_small.Statement.{statement}
 use Rattle.frames.proofs.convert_small.Tie as tie
 

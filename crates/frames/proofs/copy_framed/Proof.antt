@@ -1,6 +1,6 @@
 -- `frames::copy_framed` meets its contract. Assumes nothing.
 use borrow.Author.Needs.{needs}
-use Rattle.frames.proofs.Framed.{is-small}
+use Rattle.conversion.proofs.Checking.{is-small}
 use Rattle.frames.proofs.copy_framed.Statement.{statement}
 use Rattle.frames.proofs.copy_framed.Tie as tie
 

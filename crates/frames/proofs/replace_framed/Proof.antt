@@ -1,6 +1,6 @@
 -- `frames::replace_framed` meets its contract. Assumes nothing.
 use borrow.Author.Needs.{needs}
-use Rattle.frames.proofs.Framed.{is-small}
+use Rattle.conversion.proofs.Checking.{is-small}
 use Rattle.frames.proofs.replace_framed.Statement.{statement}
 use Rattle.frames.proofs.replace_framed.Tie as tie
 

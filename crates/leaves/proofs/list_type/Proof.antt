@@ -18,7 +18,7 @@ returns : tie.Need-returns
 returns c t =
     let n = c .before in
     let s = c .before .before .before .before .before .args in
-    lists-room (s .w .now) t (s .i) (n .before .type-word .ensures) (n .lines-len .ensures .0 t) (s .list .now) (search needs)
+    lists-room (s .half .now) t (s .type-number) (n .before .type-word .ensures) (n .lines-len .ensures .0 t) (s .list .now) (search needs)
 
 put-list-requires : tie.Need-put-list-requires
 put-list-requires c κs = (search needs, λ t. omega (arith, c .before .before .lines-len .ensures .0 t))
@@ -30,7 +30,7 @@ returns-2 : tie.Need-returns-2
 returns-2 c t =
     let n = c .before .before .before .before .before in
     let s = n .before .before .before .before .args in
-    lists-done (s .w .now) t (s .i) (n .before .type-word .ensures) (n .lines-len .ensures .0 t) (s .list .now) (search needs) (c .before .before .put-list .ensures t)
+    lists-done (s .half .now) t (s .type-number) (n .before .type-word .ensures) (n .lines-len .ensures .0 t) (s .list .now) (search needs) (c .before .before .put-list .ensures t)
 
 pub list-type-spec : {M : Type 1} → statement M
 list-type-spec =

@@ -1,0 +1,40 @@
+-- "Each log is converted by the plain in-place form and its exceptions are added up": the plain in-place run of a call that is done. Assumes nothing.
+use mathlib.Core.Path.{_≡_, refl, sym, ap, _∙_}
+use lib.IntN.{pos, _+ℤ_}
+use Rattle.answer.specs.declared.Answer.the-variants.{Done}
+use Rattle.datatype.specs.Datatype.{Datatype}
+use Rattle.records.specs.Records.{readings, exceptions}
+use Rattle.runs.specs.Run as runs
+use Rattle.runs.specs.Run.Checked.{passed}
+use Rattle.runs.proofs.Checks as run-checks
+use Rattle.runs.proofs.Buffers as run-buffers
+use Rattle.reports.specs.Call.{Call, width, heldBefore, reportOf, checks, logAfter, memoryAfter}
+use Rattle.reports.specs.Parts.{plainRun}
+use Rattle.reports.proofs.Checks.{passed-tells, has-room, log-is, held-after}
+use Rattle.channels.specs.Report.{Report, heldIn}
+
+module _ (c : Call) (S D : Datatype) (e : checks c ≡ passed S D) where
+  plain-passes : runs.checks (plainRun c) ≡ passed S D
+  plain-passes =
+      let w = passed-tells c S D e in
+      run-checks.tells-passed (plainRun c) S D
+      (record {
+        handling = refl;
+        table = w .table;
+        source = w .types .source;
+        destination = w .types .reader;
+        path = w .path;
+        count = w .count;
+        room = has-room c S D e;
+      })
+
+  -- it is done with the exceptions that the call adds
+  pub plain-answer : runs.answer (plainRun c) ≡ Done (exceptions S D (c .count) (readings S D (c .log)))
+  plain-answer = run-buffers.answer-is (plainRun c) S D plain-passes
+
+  pub plain-log : runs.after (plainRun c) ≡ logAfter c
+  plain-log = run-buffers.after-is (plainRun c) S D plain-passes (exceptions S D (c .count) (readings S D (c .log))) plain-answer ∙ sym (log-is c S D e)
+
+  pub plain-exceptions : heldIn (width D) (memoryAfter c) .exceptions ≡ heldBefore c D .exceptions +ℤ pos (exceptions S D (c .count) (readings S D (c .log)))
+  unfolding reportOf
+  plain-exceptions = ap (λ (s : Report). s .exceptions) (held-after c S D e)

@@ -1,0 +1,253 @@
+// A worked season: three logs of two source sheets and one of no records, each added to one report; then calls that are refused, by each number.
+use libc::STDOUT_FILENO;
+use report::report;
+use shown::show;
+use shown::show_answer;
+use shown::show_bytes;
+use signed_text::magnitude;
+
+// The text in a buffer, up to its first byte 0.
+fn show_text(text: &[u8]) {
+    let mut i: usize = 0;
+    while i < text.len() {
+        if text[i] == 0 {
+            return;
+        }
+        let one = [text[i]];
+        show(&one);
+        i += 1;
+    }
+}
+
+// Word k of a memory, without its sign.
+fn show_word(memory: &[i64], k: usize) {
+    show(b"\t");
+    if k < memory.len() {
+        let word = memory[k];
+        io::print_decimal(STDOUT_FILENO, magnitude(word));
+    }
+}
+
+// Adds a log: the answer, the log's bytes, the report, and the records and exceptions that the memory holds.
+fn add(name: &[u8], source_sheet: &[u8], count: u64, log: &mut [u8], memory: &mut [i64]) {
+    let mut output = [0u8; 256];
+    let mut table = [7u32; 8192];
+    let a = report(
+        source_sheet,
+        b"int\t1\tLE\t0\t8\tzero\tzero\tunsigned\nint\t2\tBE\t0\t16\tzero\tzero\tsigned\nenum\t0\nvalue\topen\t1\nvalue\tshut\t0\ncomp\t5\nmember\tboost\t0\t0\nmember\toil\t1\t1\nmember\tvalve\t3\t2\nmember\tfuel\t4\t0\n",
+        count,
+        log,
+        b"\x11\x11\x11\x11\x11\x11\x11\x11\x11\x11",
+        memory,
+        &mut output,
+        &mut table,
+    );
+    show(name);
+    show_answer(a);
+    show_bytes(log);
+    show_text(&output);
+    show(b"held");
+    show_word(memory, 0);
+    show_word(memory, 1);
+    show(b"\n");
+}
+
+// Boost of two bytes, which can pass the reader's one; oil; a valve of other numbers; no fuel.
+fn add_first(name: &[u8], count: u64, log: &mut [u8], memory: &mut [i64]) {
+    add(
+        name,
+        b"int\t2\tLE\t0\t16\tzero\tzero\tunsigned\nint\t1\tLE\t0\t8\tzero\tzero\tsigned\nint\t1\tLE\t0\t8\tzero\tzero\tunsigned\nenum\t2\nvalue\tshut\t1\nvalue\topen\t0\ncomp\t4\nmember\tboost\t0\t0\nmember\toil\t2\t1\nmember\tvalve\t3\t3\n",
+        count,
+        log,
+        memory,
+    );
+}
+
+// Fuel, oil of four bytes, boost and a gap; no valve.
+fn add_second(name: &[u8], count: u64, log: &mut [u8], memory: &mut [i64]) {
+    add(
+        name,
+        b"int\t4\tBE\t0\t32\tzero\tzero\tsigned\nint\t1\tLE\t0\t8\tzero\tzero\tunsigned\ncomp\t7\nmember\tfuel\t0\t1\nmember\toil\t1\t0\nmember\tboost\t5\t1\n",
+        count,
+        log,
+        memory,
+    );
+}
+
+fn season() {
+    let mut memory = [0i64; 14];
+    let mut first = [
+        0x2Cu8,
+        0x01,
+        0xFB,
+        0x00,
+        0x28,
+        0x00,
+        0x07,
+        0x09,
+        0x77,
+        0x77,
+        0x77,
+        0x77,
+    ];
+    add_first(b"first log", 2, &mut first, &mut memory);
+    let mut second = [
+        0x0Cu8,
+        0x00,
+        0x00,
+        0x9C,
+        0x40,
+        0x03,
+        0xEE,
+        0xC8,
+        0xFF,
+        0xFF,
+        0x80,
+        0x00,
+        0x00,
+        0xEE,
+        0x77,
+        0x77,
+    ];
+    add_second(b"second log", 2, &mut second, &mut memory);
+    let mut third = [0xE8u8, 0x03, 0x00, 0x01, 0x77, 0x77];
+    add_first(b"third log, of the first sheet", 1, &mut third, &mut memory);
+    let mut none = [0x77u8];
+    add_second(b"no records", 0, &mut none, &mut memory);
+}
+
+// A call on a log of one byte.
+fn refused(
+    name: &[u8],
+    source_sheet: &[u8],
+    reader_sheet: &[u8],
+    count: u64,
+    memory: &mut [i64],
+    output: &mut [u8],
+    table: &mut [u32],
+) {
+    let mut log = [5u8];
+    let a = report(
+        source_sheet,
+        reader_sheet,
+        count,
+        &mut log,
+        b"\x11",
+        memory,
+        output,
+        table,
+    );
+    show(name);
+    show_answer(a);
+    show_bytes(&log);
+}
+
+// By its sheets.
+fn refused_sheets(name: &[u8], source_sheet: &[u8], reader_sheet: &[u8]) {
+    let mut memory = [0i64; 6];
+    let mut output = [0u8; 64];
+    let mut table = [7u32; 8192];
+    refused(
+        name,
+        source_sheet,
+        reader_sheet,
+        1,
+        &mut memory,
+        &mut output,
+        &mut table,
+    );
+}
+
+// By what is lent, where both sheets have one byte.
+fn refused_lent(name: &[u8], count: u64, memory: &mut [i64], output: &mut [u8], table: &mut [u32]) {
+    refused(
+        name,
+        b"int\t1\tLE\t0\t8\tzero\tzero\tunsigned\n",
+        b"int\t1\tLE\t0\t8\tzero\tzero\tunsigned\n",
+        count,
+        memory,
+        output,
+        table,
+    );
+}
+
+// By the memory, with a table and an output of so much room.
+fn refused_memory(name: &[u8], count: u64, memory: &mut [i64], output: &mut [u8]) {
+    let mut table = [7u32; 8192];
+    refused_lent(name, count, memory, output, &mut table);
+}
+
+fn short_table() {
+    let mut memory = [0i64; 6];
+    let mut output = [0u8; 64];
+    let mut table = [7u32; 8191];
+    refused_lent(
+        b"2 table of 8191 words",
+        1,
+        &mut memory,
+        &mut output,
+        &mut table,
+    );
+}
+
+fn sheets() {
+    refused_sheets(
+        b"3 source sheet",
+        b"int\n",
+        b"int\t1\tLE\t0\t8\tzero\tzero\tunsigned\n",
+    );
+    refused_sheets(
+        b"4 reader's sheet",
+        b"int\t1\tLE\t0\t8\tzero\tzero\tunsigned\n",
+        b"int\t1\tLE\t0\t8\tzero\tzero\tunsigned\ncomp\t0\n",
+    );
+    refused_sheets(
+        b"10 channel of 33 bits",
+        b"int\t1\tLE\t0\t8\tzero\tzero\tunsigned\n",
+        b"int\t8\tLE\t0\t33\tzero\tzero\tunsigned\n",
+    );
+    refused_sheets(
+        b"10 before 5",
+        b"bits\t1\tLE\t0\t8\tzero\tzero\n",
+        b"int\t8\tLE\t0\t33\tzero\tzero\tunsigned\n",
+    );
+    refused_sheets(
+        b"5 int to bits",
+        b"int\t1\tLE\t0\t8\tzero\tzero\tunsigned\n",
+        b"bits\t1\tLE\t0\t8\tzero\tzero\n",
+    );
+}
+
+fn lent() {
+    let mut output = [0u8; 64];
+    let mut memory = [0i64; 6];
+    refused_memory(b"6 count 65537", 65537, &mut memory, &mut output);
+    refused_memory(b"7 log short", 2, &mut memory, &mut output);
+    let mut short = [0i64; 5];
+    refused_memory(b"7 memory of 5 words", 1, &mut short, &mut output);
+}
+
+fn full() {
+    let mut output = [0u8; 64];
+    let mut held = [1048576i64, 0, 0, 0, 0, 0];
+    refused_memory(b"11 records past the limit", 1, &mut held, &mut output);
+    let mut negative = [0i64, 0, 0, 0, 0, -1];
+    refused_memory(b"11 negative samples", 1, &mut negative, &mut output);
+    let mut none = [0u8; 0];
+    refused_memory(b"11 before 7 of the output", 1, &mut held, &mut none);
+}
+
+fn short_output() {
+    let mut memory = [0i64; 6];
+    let mut output = [0u8; 39];
+    refused_memory(b"7 output short by one byte", 1, &mut memory, &mut output);
+}
+
+fn main() {
+    season();
+    short_table();
+    sheets();
+    lent();
+    full();
+    short_output();
+}
