@@ -1,5 +1,5 @@
-// Times the copying and the in-place form, and HDF5's H5Tconvert where it is there (-DWITH_HDF5), on the same bytes, interleaved in one run.
-// HDF5 follows document 01 on these workloads: a byte that differs ends the run with status 1.
+// Times the copying and the in-place form, and HDF5's H5Tconvert where it is there (-DWITH_HDF5), on the same bytes, interleaved in one run; and the report
+// beside the in-place form, likewise. HDF5 follows document 01 on these workloads: a byte that differs ends the run with status 1.
 #include "../include/yirvagul.h"
 #include <stdio.h>
 #include <stdlib.h>
@@ -25,7 +25,7 @@ typedef struct {
     size_t records;      // of a call
     int calls;           // timed together
     int leaves;          // matched leaves of a record
-    const char *target;  // HDF5's time by that of the copying form
+    const char *target;  // HDF5's time by that of the copying form; of a report, its own by that of the in-place form
     int largest;         // source bytes are random, from 0 up to this
     Side source, destination;
 } Workload;
@@ -136,6 +136,25 @@ static void whole_bytes(Workload *w) {
     add_ints(&w->destination, 8, to, NULL);
 }
 
+// The ints that a report takes have at most 32 bits.
+static void whole_bytes_of_32(Workload *w) {
+    static const Int from[8] = {{1, 0, 0, 8, 0}, {2, 0, 0, 16, 1}, {4, 1, 0, 32, 0}, {2, 1, 0, 16, 1}, {4, 0, 0, 32, 1}, {1, 0, 0, 8, 1}, {2, 0, 0, 16, 0}, {4, 0, 0, 32, 0}};
+    static const Int to[8] = {{4, 0, 0, 32, 0}, {4, 0, 0, 32, 1}, {4, 0, 0, 32, 0}, {4, 1, 0, 32, 1}, {4, 1, 0, 32, 1}, {2, 0, 0, 16, 1}, {4, 1, 0, 32, 0}, {4, 1, 0, 32, 0}};
+    add_ints(&w->source, 8, from, NULL);
+    add_ints(&w->destination, 8, to, NULL);
+}
+
+// Half of the numbers of each member are above or below the destination's range.
+static void clamped(Workload *w) {
+    Int from[8], to[8];
+    for (int i = 0; i < 8; i++) {
+        from[i] = (Int){2, i % 2, 0, 16, i % 4 < 2};
+        to[i] = (Int){2, 0, 0, 15, i % 4 < 2};
+    }
+    add_ints(&w->source, 8, from, NULL);
+    add_ints(&w->destination, 8, to, NULL);
+}
+
 static void twelve_bits(Workload *w) {
     Int from[8], to[8];
     for (int i = 0; i < 8; i++) {
@@ -222,6 +241,7 @@ static unsigned char random_byte(int largest) {
     return (unsigned char)((state >> 24) % (unsigned)(largest + 1));
 }
 
+// The report converts in h5, which HDF5 does not use then.
 typedef struct {
     unsigned char *source, *background, *destination, *place, *h5, *h5_background;
 } Buffers;
@@ -255,6 +275,25 @@ static double in_place(const Workload *w, const Buffers *b, uint32_t *table) {
     return (now_ns() - t) / w->calls / (double)n;
 }
 
+// Over a report of no records.
+static double report(const Workload *w, const Buffers *b, uint32_t *table) {
+    static int64_t memory[YIRVAGUL_REPORT_WORDS];
+    static uint8_t output[YIRVAGUL_REPORT_BYTES];
+    uint64_t answer[8];
+    const Side *s = &w->source, *d = &w->destination;
+    size_t from = strlen(s->sheet), to = strlen(d->sheet), n = w->records, most = n * (size_t)(s->size > d->size ? s->size : d->size);
+    memset(memory, 0, sizeof memory);
+    memcpy(b->h5, b->source, n * (size_t)s->size);
+    double t = now_ns();
+    if (yirvagul_report((const uint8_t *)s->sheet, from, (const uint8_t *)d->sheet, to, n, b->h5, most, b->background, n * (size_t)d->size, memory, YIRVAGUL_REPORT_WORDS, output, sizeof output,
+                        table, YIRVAGUL_TABLE_WORDS, answer))
+        fail(w, "the report refused");
+    t = now_ns() - t;
+    if (memory[YIRVAGUL_REPORT_WORDS - 1] || memory[YIRVAGUL_REPORT_LEAVES + YIRVAGUL_REPORT_LEAF_WORDS * w->leaves - 1] != (int64_t)n)
+        fail(w, "the report has other samples than records");
+    return t / (double)n;
+}
+
 // H5Tconvert works in place over a background. Its datatypes are ready.
 static double hdf5(const Workload *w, const Buffers *b) {
 #ifdef WITH_HDF5
@@ -286,13 +325,38 @@ static void print_row(const Workload *w, double c, double p, double h) {
     fflush(stdout);
 }
 
-static void run(const Workload *w, int rounds) {
-    static double c[ROUNDS_MOST], p[ROUNDS_MOST], h[ROUNDS_MOST];
+static Buffers make_buffers(const Workload *w) {
     size_t s = w->records * (size_t)w->source.size, d = w->records * (size_t)w->destination.size, most = s > d ? s : d;
     Buffers b = {malloc(s), calloc(d, 1), calloc(d, 1), malloc(most), malloc(most), malloc(d)};
-    uint32_t *table = calloc(YIRVAGUL_TABLE_WORDS, sizeof *table);
     for (size_t i = 0; i < s; i++)
         b.source[i] = random_byte(w->largest);
+    return b;
+}
+
+static void free_buffers(Buffers b) { free(b.source), free(b.background), free(b.destination), free(b.place), free(b.h5), free(b.h5_background); }
+
+static void run_report(const Workload *w, int rounds) {
+    static double p[ROUNDS_MOST], r[ROUNDS_MOST];
+    size_t d = w->records * (size_t)w->destination.size;
+    Buffers b = make_buffers(w);
+    uint32_t *table = calloc(YIRVAGUL_TABLE_WORDS, sizeof *table);
+    for (int i = 0; i < rounds; i++) {
+        p[i] = in_place(w, &b, table);
+        r[i] = report(w, &b, table);
+    }
+    if (memcmp(b.h5, b.place, d))
+        fail(w, "the report's log differs");
+    double place = median(p, rounds), all = median(r, rounds), n = w->leaves;
+    printf("| %s | %.1f | %.2f | %.1f | %.2f | %.2f | %s |\n", w->name, place, place / n, all, all / n, all / place, w->target);
+    fflush(stdout);
+    free_buffers(b), free(table);
+}
+
+static void run(const Workload *w, int rounds) {
+    static double c[ROUNDS_MOST], p[ROUNDS_MOST], h[ROUNDS_MOST];
+    size_t d = w->records * (size_t)w->destination.size;
+    Buffers b = make_buffers(w);
+    uint32_t *table = calloc(YIRVAGUL_TABLE_WORDS, sizeof *table);
     for (int i = 0; i < rounds; i++) {
         c[i] = copying(w, &b, table);
         p[i] = in_place(w, &b, table);
@@ -305,7 +369,7 @@ static void run(const Workload *w, int rounds) {
         fail(w, "HDF5's bytes differ");
 #endif
     print_row(w, median(c, rounds), median(p, rounds), median(h, rounds));
-    free(b.source), free(b.background), free(b.destination), free(b.place), free(b.h5), free(b.h5_background), free(table);
+    free_buffers(b), free(table);
 }
 
 int main(int argc, char **argv) {
@@ -317,6 +381,9 @@ int main(int argc, char **argv) {
                            {"4 members out of 64", RECORDS, 1, 4, "1.2", 255, {.sheet = ""}, {.sheet = ""}},
                            {"the first 4 of 64", RECORDS, 1, 4, "", 255, {.sheet = ""}, {.sheet = ""}},
                            {"8 whole-byte members, one record a call", 1, CALLS, 8, "", 255, {.sheet = ""}, {.sheet = ""}}};
+    static Workload reports[] = {{"report of 8 whole-byte members of at most 32 bits", RECORDS, 1, 8, "2.5", 255, {.sheet = ""}, {.sheet = ""}},
+                                 {"report of 8 members that may clamp", RECORDS, 1, 8, "", 255, {.sheet = ""}, {.sheet = ""}}};
+    static void (*const make_report[])(Workload *) = {whole_bytes_of_32, clamped};
     static void (*const make[])(Workload *) = {whole_bytes, twelve_bits, array_of_512, enums, grown_byte, scattered, first_four, whole_bytes};
     int rounds = argc > 1 ? atoi(argv[1]) : 15;
     if (rounds < 1 || rounds > ROUNDS_MOST)
@@ -328,6 +395,14 @@ int main(int argc, char **argv) {
             continue;
         make[i](&w[i]);
         run(&w[i], w[i].leaves > 100 ? (rounds + 2) / 3 : rounds);
+    }
+    printf("\n| workload | in place ns/record | ns/leaf | report ns/record | ns/leaf | report / in place | at most |\n");
+    printf("|---|---|---|---|---|---|---|\n");
+    for (size_t i = 0; i < sizeof reports / sizeof *reports; i++) {
+        if (argc > 2 && !strstr(reports[i].name, argv[2]))
+            continue;
+        make_report[i](&reports[i]);
+        run_report(&reports[i], rounds);
     }
     return 0;
 }

@@ -24,6 +24,7 @@ from yirvagul import (
     Order,
     Pad,
     Refusal,
+    Report,
     Sign,
     convert_copying,
     convert_in_place,
@@ -323,8 +324,20 @@ def check_limits(page, text):
     header = read("include/yirvagul.h")
     signed = WIDE.replace("unsigned", "signed")
 
+    def constant(name):
+        """The worth of a sum in the header."""
+        return eval(re.search(rf"^#define YIRVAGUL_{name} (\([\d +*]+\))$", header, re.M)[1])
+
     def takes(n):
         return refusal(convert_copying, BYTE, BYTE, n, Handling.STOP, bytes(n), bytearray(n)) is None
+
+    def reported(sheet, log=b""):
+        """The refusal of a report, or of a log of its own sheet."""
+        return refusal(lambda: Report(sheet).add(sheet, log))
+
+    def refused_at(name, *cases):
+        """Whether the first is fine, and the second is refused by that name."""
+        return [refused and refused.name for refused in cases] == [None, name]
 
     def last(fine, faulty):
         """Whether one sheet is fine and the other faulty at its last line."""
@@ -345,6 +358,10 @@ def check_limits(page, text):
         "records in one call": lambda n: takes(n) and not takes(n + 1),
         "the working table": lambda n: f"YIRVAGUL_TABLE_WORDS {n}\n" in header,
         "a leaf list": lambda n: n == LIST_BYTES,
+        "an int of a reader's sheet": lambda n: refused_at("CHANNEL", *(reported(WIDE.replace("64", str(k))) for k in (n, n + 1))),
+        "records of one report": lambda n: refused_at("FULL", *(reported(BYTE, bytes(k)) for k in (n, n + 1))) and n == Report.MOST_RECORDS,
+        "a report's memory": lambda n: n == constant("REPORT_WORDS"),
+        "a report's output": lambda n: n == constant("REPORT_BYTES"),
         "stack of a converting call, destination record of at most 128 bytes": lambda n: n == SMALL_STACK_BYTES,
         "stack of any converting call": lambda n: n == STACK_BYTES,
     }
@@ -387,7 +404,10 @@ CHECKS = {
     "README.md": check_readme,
     "CHANGELOG.md": check_changelog,
     "bindings/README.md": lambda page, text: check_shown(
-        page, text, "bindings/c/rig.c", "bindings/c/rig.txt", "bindings/rust/examples/rig.rs", "bindings/python/rig.py", "bindings/rig.txt"
+        page,
+        text,
+        *("bindings/c/rig.c", "bindings/c/rig.txt", "bindings/rust/examples/rig.rs", "bindings/python/rig.py", "bindings/rig.txt"),
+        *("bindings/c/season.c", "bindings/c/season.txt"),
     ),
     "docs/TEACHING.md": check_teaching,
     "docs/QUESTIONS.md": check_bytes,

@@ -1,13 +1,13 @@
-/* Yirvagul: converts records of instrument logs from one binary layout to another, in place or copying, lists a layout's leaves, tells a record's size,
- * and edits atomic layouts.
+/* Yirvagul: converts records of instrument logs from one binary layout to another, in place or copying, reports on the numbers of many logs, lists a
+ * layout's leaves, tells a record's size, and edits atomic layouts.
  *
  * Link with libcapi.a. Every call is proved against a definition of what it answers and of every byte that it leaves; it keeps nothing between calls,
  * allocates nothing and can be called from several threads at once, each with its own buffers.
  *
  * What a caller owes, since C cannot say it in a type:
- *   - each pointer points at as many elements as the length beside it says; a sheet, a buffer or a table of length 0 may be NULL;
+ *   - each pointer points at as many elements as the length beside it says; a sheet, a buffer, a memory or a table of length 0 may be NULL;
  *   - answer and layout point at eight words each, and are never NULL;
- *   - a buffer that is written (destination, buffer, list, table, answer, layout) overlaps no other argument.
+ *   - a buffer that is written (destination, buffer, log, memory, output, list, table, answer, layout) overlaps no other argument.
  *
  * Sheets are text: lines ended by byte 10, fields parted by one tab, for example a compound of one 12-bit pressure:
  *
@@ -32,14 +32,15 @@ extern "C" {
  * after every call, except after HANDLING and TABLE, which leave it as it was; words beyond never change. */
 #define YIRVAGUL_TABLE_WORDS 8192
 
-/* The most bytes that a call takes of its thread's stack: any call; and one that converts where the destination record has at most 128 bytes, or that is no
- * conversion (the list, the size, the setters). A call that is refused with HANDLING, TABLE, SOURCE or DESTINATION takes at most 16,384. */
+/* The most bytes that a call takes of its thread's stack: any call; and one that converts or reports where the destination record has at most 128 bytes, or
+ * that is neither (the list, the size, the setters). A call that is refused with HANDLING, TABLE, SOURCE or DESTINATION takes at most 16,384. */
 #define YIRVAGUL_STACK_BYTES 163840
 #define YIRVAGUL_SMALL_STACK_BYTES 49152
 
 /* ---- what a call answers ---- */
 
-/* The number that each call returns: done, or the first check that fails. A refusal leaves the data buffers, the list and the layout unchanged. */
+/* The number that each call returns: done, or the first check that fails. A refusal leaves the data buffers, the list, the report and the layout
+ * unchanged. The checks stand in the order of their numbers; those of the report stand beside it. */
 enum {
     /* Done. */
     YIRVAGUL_DONE = 0,
@@ -50,26 +51,33 @@ enum {
     /* The source sheet, or the only one, is faulty at `line`, counted from 1. Correct that line: a line is judged by itself and the lines before it.
      * Line 0: the sheet is longer than 16,384 bytes. A last line without byte 10 is faulty at its own number. */
     YIRVAGUL_SOURCE = 3,
-    /* The destination sheet is faulty at `line`, likewise. */
+    /* The destination sheet, or the reader's, is faulty at `line`, likewise. */
     YIRVAGUL_DESTINATION = 4,
     /* The source type has no path to the destination type. Give members of one name the same class, and arrays the same number of elements. */
     YIRVAGUL_PATH = 5,
     /* count is above 65,536. Convert in parts. */
     YIRVAGUL_COUNT = 6,
     /* A buffer is too short, with S and D for the sizes of a source and a destination record: the source for count * S bytes, the destination or the
-     * background for count * D, the in-place buffer for count * max(S, D), or the list. Lend a longer one. */
+     * background for count * D, the in-place buffer or the log for count * max(S, D), the report's memory for its words, the list, or the report's output.
+     * Lend a longer one. */
     YIRVAGUL_ROOM = 7,
     /* Handling is stop, and a number does not fit: the first such leaf is `at` bytes into destination record `record`, and `kind` says why. Widen the
      * destination layout there, or convert with YIRVAGUL_CLAMP. */
     YIRVAGUL_STOP = 8,
     /* A setter's argument or result is outside its rule, or the layout already was. Pass a valid layout and an argument within the rule. */
-    YIRVAGUL_RANGE = 9
+    YIRVAGUL_RANGE = 9,
+    /* An int leaf of the reader's sheet has more than 32 bits, matched or not. Narrow it, or take it out of that sheet. */
+    YIRVAGUL_CHANNEL = 10,
+    /* The report would have more than 1,048,576 records; or its memory holds a negative number of records, exceptions or samples, or a word above 2^52 in
+     * magnitude, which no report has that began with zeros. Begin a new one. */
+    YIRVAGUL_FULL = 11
 };
 
 /* The answer's eight words. Each call that reads sheets writes all of them; a word that the number does not name is 0. */
 enum {
     YIRVAGUL_ANSWER_NUMBER = 0, /* what the call returned */
-    YIRVAGUL_ANSWER_COUNT = 1,  /* done: how many leaves raised an exception; of the list, its length in bytes; of the record size, that size in bytes */
+    YIRVAGUL_ANSWER_COUNT = 1,  /* done: how many leaves raised an exception; of the list or the report, its length in bytes; of the record size, that size
+                                   in bytes */
     YIRVAGUL_ANSWER_LINE = 2,   /* SOURCE, DESTINATION: the first faulty line */
     YIRVAGUL_ANSWER_RECORD = 3, /* STOP: the record, from 0 */
     YIRVAGUL_ANSWER_AT = 4,     /* STOP: the leaf's first byte in its destination record, from 0 */
@@ -98,6 +106,8 @@ static inline const char *yirvagul_name(uint32_t number) {
     case YIRVAGUL_ROOM: return "ROOM";
     case YIRVAGUL_STOP: return "STOP";
     case YIRVAGUL_RANGE: return "RANGE";
+    case YIRVAGUL_CHANNEL: return "CHANNEL";
+    case YIRVAGUL_FULL: return "FULL";
     default: return "UNKNOWN";
     }
 }
@@ -133,6 +143,40 @@ uint32_t yirvagul_convert_in_place(const uint8_t *source_sheet, size_t source_sh
 uint32_t yirvagul_convert_in_place_plain(const uint8_t *source_sheet, size_t source_sheet_len, const uint8_t *destination_sheet,
                                          size_t destination_sheet_len, uint64_t count, uint8_t *buffer, size_t buffer_len, const uint8_t *background,
                                          size_t background_len, uint32_t *table, size_t table_len, uint64_t answer[8]);
+
+/* ---- the report ---- */
+
+/* A memory of so many words, and an output of so many bytes, serve any reader's sheet: 4,096 int leaves of one byte. */
+#define YIRVAGUL_REPORT_WORDS (2 + 4 * 4096)
+#define YIRVAGUL_REPORT_BYTES (30 + 4096 * 76)
+
+/* Where a report's words lie in its memory: two for all, then four for each int leaf of the reader's sheet, in byte order. */
+enum {
+    YIRVAGUL_REPORT_RECORDS = 0,    /* the records of all logs */
+    YIRVAGUL_REPORT_EXCEPTIONS = 1, /* the leaves in them that raised an exception, of every class */
+    YIRVAGUL_REPORT_LEAVES = 2,     /* the first word of the first leaf */
+    YIRVAGUL_REPORT_LEAF_WORDS = 4  /* a leaf's words: lowest, highest, sum, samples */
+};
+
+/* Adds a log to a report and writes what the report then says. The memory is the report: zeros before its first log, and afterwards as the last call left
+ * it, always with the same reader's sheet. Each log may have a source sheet of its own.
+ *
+ * The count records of the log are converted to the reader's layout as yirvagul_convert_in_place_plain does it, and the buffer is left as that call leaves
+ * it. The numbers that then stand in a matched int leaf are its samples: its lowest, highest, sum and number of samples follow them. A number that was
+ * clamped is a sample too, and one exception more. A leaf that the log does not match gets none.
+ *
+ * The output has a header, `at`, `lowest`, `highest`, `sum` and `samples` parted by tabs, and a line for each int leaf of the reader's sheet, in byte order,
+ * in decimal; `-` stands for lowest and highest where there is no sample. Done gives the output's length; bytes past it stay. A count of 0 adds nothing and
+ * writes what the report says.
+ *
+ * A log may be cut between records, anywhere: where no call is refused, memory and last output are the same. So a log of any length goes in parts.
+ *
+ * With L int leaves in the reader's sheet, the memory has at least 2 + 4 * L words; words behind them are neither read nor changed. The checks, in this
+ * order, are TABLE, SOURCE, DESTINATION (the reader's sheet), CHANNEL, PATH, COUNT, ROOM (log, background, memory), FULL, ROOM (output). A refusal leaves
+ * log, memory and output as they were. */
+uint32_t yirvagul_report(const uint8_t *source_sheet, size_t source_sheet_len, const uint8_t *reader_sheet, size_t reader_sheet_len, uint64_t count,
+                         uint8_t *log, size_t log_len, const uint8_t *background, size_t background_len, int64_t *memory, size_t memory_len,
+                         uint8_t *output, size_t output_len, uint32_t *table, size_t table_len, uint64_t answer[8]);
 
 /* ---- the leaf list ---- */
 

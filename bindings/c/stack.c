@@ -50,6 +50,7 @@ static const char *const PAIR = "int\t2\tBE\t0\t16\tzero\tzero\tunsigned";
 static const char *const SIGNED_PAIR = "int\t2\tLE\t0\t16\tzero\tzero\tsigned";
 static const char *const KEPT = "int\t2\tBE\t3\t7\tkeep\tkeep\tsigned";
 static const char *const BITS = "bits\t1\tLE\t0\t8\tzero\tzero";
+static const char *const FOUR = "int\t4\tLE\t0\t32\tzero\tzero\tunsigned";
 static const char *const WIDE = "int\t8\tBE\t0\t64\tzero\tzero\tunsigned";
 
 static void array_of(Sheet *s, const char *base, int n) { numbered(s, "array\t%d\t%d", type(s, base), n); }
@@ -129,6 +130,7 @@ typedef struct {
     const char *name;
     Sheet from, to;
     int stops; /* records of bytes 255 have a number that does not fit */
+    int is_wide; /* an int of the destination has more bits than a report takes */
 } Pair;
 
 static Pair pairs[32];
@@ -144,7 +146,8 @@ static Pair *pair(const char *name, int stops) {
 static void make_pairs(void) {
     Pair *p;
     p = pair("one byte", 1), type(&p->from, BYTE), type(&p->to, SIGNED_BYTE);
-    p = pair("one easy byte, growing", 0), type(&p->from, BYTE), type(&p->to, WIDE);
+    p = pair("one easy byte, growing", 0), type(&p->from, BYTE), type(&p->to, WIDE), p->is_wide = 1;
+    p = pair("one easy byte, growing to 4", 0), type(&p->from, BYTE), type(&p->to, FOUR);
     p = pair("128 leaves", 1), array_of(&p->from, BYTE, 128), array_of(&p->to, SIGNED_BYTE, 128);
     p = pair("64 leaves, growing", 1), array_of(&p->from, SIGNED_BYTE, 64), array_of(&p->to, PAIR, 64);
     p = pair("128 leaves, shrinking", 1), array_of(&p->from, SIGNED_PAIR, 128), array_of(&p->to, BYTE, 128);
@@ -174,16 +177,31 @@ static void make_pairs(void) {
 
 /* ---- calls */
 
-typedef enum { COPYING, COPYING_PLAIN, IN_PLACE, IN_PLACE_PLAIN, LIST, SIZE, SET_SIZE, SET_ORDER, SET_PRECISION, SET_OFFSET, SET_PADS, SET_SIGN, NONE } Form;
+typedef enum {
+    COPYING,
+    COPYING_PLAIN,
+    IN_PLACE,
+    IN_PLACE_PLAIN,
+    REPORT,
+    LIST,
+    SIZE,
+    SET_SIZE,
+    SET_ORDER,
+    SET_PRECISION,
+    SET_OFFSET,
+    SET_PADS,
+    SET_SIGN,
+    NONE
+} Form;
 
-static const char *const forms[] = {"copying",  "copying, plain", "in place",      "in place, plain", "list",     "size", "set size",
-                                    "set order", "set precision",  "set offset", "set pads",       "set sign", "nothing"};
+static const char *const forms[] = {"copying", "copying, plain", "in place",      "in place, plain", "report",   "list",     "size",
+                                    "set size", "set order",      "set precision", "set offset",      "set pads", "set sign", "nothing"};
 
 typedef struct {
     Form form;
     const char *what;
     const char *from, *to;
-    size_t from_len, to_len, room, table_len;
+    size_t from_len, to_len, room, words, table_len; /* words of a report's memory */
     uint64_t count;
     uint32_t handling; /* of a setter, its argument */
     uint32_t number;   /* that the call answers */
@@ -191,6 +209,8 @@ typedef struct {
 } Call;
 
 static uint8_t source[RECORDS * RECORD_MOST], place[RECORDS * RECORD_MOST], background[RECORDS * RECORD_MOST], list[YIRVAGUL_LIST_BYTES];
+static uint8_t output[YIRVAGUL_REPORT_BYTES];
+static int64_t memory[YIRVAGUL_REPORT_WORDS], held; /* held: the records of the report at entry */
 static uint32_t table[YIRVAGUL_TABLE_WORDS];
 static uint64_t answer[8];
 static uint32_t layout[8];
@@ -210,6 +230,9 @@ static uint32_t run(const Call *c) {
     case IN_PLACE_PLAIN:
         return yirvagul_convert_in_place_plain(from, c->from_len, to, c->to_len, c->count, place, c->room, background, sizeof background, table,
                                                c->table_len, answer);
+    case REPORT:
+        return yirvagul_report(from, c->from_len, to, c->to_len, c->count, place, sizeof place, background, sizeof background, memory, c->words, output,
+                               c->room, table, c->table_len, answer);
     case LIST: return yirvagul_leaf_list(from, c->from_len, list, c->room, table, c->table_len, answer);
     case SIZE: return yirvagul_record_size(from, c->from_len, table, c->table_len, answer);
     case SET_SIZE: return yirvagul_set_size(layout, c->handling);
@@ -272,6 +295,8 @@ static void run_on(const Call *c, uint8_t *stack, size_t size) {
     static const uint32_t start[8] = {YIRVAGUL_INT, 4, YIRVAGUL_LE, 16, 16, 0, 0, YIRVAGUL_UNSIGNED};
     memcpy(layout, start, sizeof layout);
     for (i = 0; i < sizeof place; i++) place[i] = source[i];
+    memset(memory, 0, sizeof memory);
+    memory[YIRVAGUL_REPORT_RECORDS] = held;
     running = c;
     must(pthread_attr_init(&a) == 0 && pthread_attr_setstack(&a, stack, size) == 0, "thread with a stack of its own");
     must(pthread_create(&t, &a, thread, NULL) == 0 && pthread_join(t, NULL) == 0, "thread with a stack of its own");
@@ -320,7 +345,8 @@ static Call call(Form form, const char *what, const Sheet *from, const Sheet *to
     c.from_len = strlen(from->text);
     c.to = to->text;
     c.to_len = strlen(to->text);
-    c.room = form == LIST ? sizeof list : sizeof place;
+    c.room = form == LIST ? sizeof list : form == REPORT ? sizeof output : sizeof place;
+    c.words = YIRVAGUL_REPORT_WORDS;
     c.table_len = YIRVAGUL_TABLE_WORDS;
     c.count = RECORDS;
     return c;
@@ -353,6 +379,22 @@ static void test_converting(const Pair *p) {
     }
 }
 
+/* The report of records that fit and of records that may not; and checks 10, 5 to 7 and 11. */
+static void test_report(const Pair *p) {
+    size_t most = size_of(&p->to) <= SMALL_RECORD ? YIRVAGUL_SMALL_STACK_BYTES : YIRVAGUL_STACK_BYTES;
+    Call c = call(REPORT, p->name, &p->from, &p->to), other;
+    int high;
+    for (high = 0; high < 2; high++) {
+        memset(source, high ? 255 : 0, sizeof source);
+        expect(c, p->is_wide ? YIRVAGUL_CHANNEL : YIRVAGUL_DONE, most);
+    }
+    if (p->is_wide) return;
+    other = c, other.count = 65537, expect(other, YIRVAGUL_COUNT, most);
+    other = c, other.words = 1, expect(other, YIRVAGUL_ROOM, most);
+    other = c, other.room = 0, expect(other, YIRVAGUL_ROOM, most);
+    held = -1, expect(c, YIRVAGUL_FULL, most), held = 0;
+}
+
 /* Checks 1 to 4, with faults in the last lines of the deepest sheets. */
 static void test_refused(const Pair *p) {
     static Sheet faulty;
@@ -366,7 +408,7 @@ static void test_refused(const Pair *p) {
         other = c, other.from = faulty.text, other.from_len = strlen(faulty.text), expect(other, YIRVAGUL_SOURCE, REFUSED_STACK_BYTES);
         other = c, other.from_len = SHEET_MOST + 1, expect(other, YIRVAGUL_SOURCE, REFUSED_STACK_BYTES);
         if (takes_handling(c.form)) other = c, other.handling = 2, expect(other, YIRVAGUL_HANDLING, REFUSED_STACK_BYTES);
-        if (form <= IN_PLACE_PLAIN) other = c, other.to = faulty.text, other.to_len = strlen(faulty.text), expect(other, YIRVAGUL_DESTINATION, REFUSED_STACK_BYTES);
+        if (form <= REPORT) other = c, other.to = faulty.text, other.to_len = strlen(faulty.text), expect(other, YIRVAGUL_DESTINATION, REFUSED_STACK_BYTES);
     }
 }
 
@@ -385,7 +427,7 @@ static void test_no_path(const char *name, void (*deep)(Sheet *, const char *, i
     memset(&to, 0, sizeof to);
     deep(&from, BYTE, n);
     deep(&to, BITS, n);
-    for (form = COPYING; form <= IN_PLACE_PLAIN; form++) expect(call((Form)form, name, &from, &to), YIRVAGUL_PATH, most);
+    for (form = COPYING; form <= REPORT; form++) expect(call((Form)form, name, &from, &to), YIRVAGUL_PATH, most);
 }
 
 static void test_setters(void) {
@@ -421,6 +463,7 @@ int main(int argc, char **argv) {
     make_pairs();
     for (i = 0; i < pair_count; i++) {
         test_converting(&pairs[i]);
+        test_report(&pairs[i]);
         test_refused(&pairs[i]);
         test_sheet(pairs[i].name, &pairs[i].from);
         test_sheet(pairs[i].name, &pairs[i].to);

@@ -79,6 +79,99 @@ static void test_in_place(void) {
                   7, 0, 0, 0, 0, 0, "ROOM, in place");
 }
 
+/* ---- the report */
+
+#define WIDE "int\t8\tLE\t0\t33\tzero\tzero\tsigned\n"
+#define HEAD "at\tlowest\thighest\tsum\tsamples\n"
+enum { WORDS = 7 }; /* of a report of one int, and one behind them */
+
+static uint8_t output[YIRVAGUL_REPORT_BYTES];
+
+static uint32_t report(const char *from, const char *reader, uint64_t count, uint8_t *log, size_t log_len, int64_t *memory, size_t words, size_t room) {
+    static const uint8_t background[4] = {0x55, 0x55, 0x55, 0x55};
+    return yirvagul_report((const uint8_t *)from, strlen(from), (const uint8_t *)reader, strlen(reader), count, log, log_len, background, 4, memory, words,
+                           output, room, table, YIRVAGUL_TABLE_WORDS, answer);
+}
+
+/* Done, with this text, and no byte past it. */
+static void expect_report(uint32_t returned, const char *text, const char *what) {
+    expect_answer(returned, 0, strlen(text), 0, 0, 0, 0, what);
+    expect_bytes(output, text, strlen(text), what);
+    expect(output[strlen(text)] == 0x77, what);
+    memset(output, 0x77, sizeof output);
+}
+
+/* Refused with this number, with log, memory and output as they were. */
+static void expect_refused(const char *from, const char *reader, uint64_t count, size_t log_len, const int64_t *held, size_t words, size_t room,
+                           uint64_t number, uint64_t line, const char *what) {
+    uint8_t log[3] = {5, 9, 7};
+    int64_t memory[WORDS];
+    size_t i;
+    memcpy(memory, held, sizeof memory);
+    expect_answer(report(from, reader, count, log, log_len, memory, words, room), number, 0, line, 0, 0, 0, what);
+    expect(memcmp(memory, held, sizeof memory) == 0 && memcmp(log, "\x05\x09\x07", 3) == 0, what);
+    for (i = 0; i < sizeof output; i++)
+        if (output[i] != 0x77) break;
+    expect(i == sizeof output, what);
+}
+
+static void test_report(void) {
+    const int64_t most = (int64_t)1 << 52, limit = 1048576;
+    int64_t memory[WORDS] = {0, 0, 0, 0, 0, 0, -7}, held[WORDS] = {1, 0, 5, 9, 14, 2, -7};
+    uint8_t log[4] = {0, 200, 255, 255};
+    memset(output, 0x77, sizeof output);
+    expect_report(report(BYTE, SIGNED_BYTE, 0, NULL, 0, memory, WORDS, sizeof output), HEAD "0\t-\t-\t0\t0\n", "a report of nothing");
+    /* 200 and 65,535 are clamped; the log shrinks in place */
+    expect_report(report(PAIR, SIGNED_BYTE, 2, log, 4, memory, WORDS, sizeof output), HEAD "0\t127\t127\t254\t2\n", "a first log");
+    expect_bytes(log, "\x7f\x7f\x00\x00", 4, "the log is converted in place");
+    log[0] = 0x80;
+    expect_report(report(SIGNED_BYTE, SIGNED_BYTE, 1, log, 1, memory, WORDS, sizeof output), HEAD "0\t-128\t127\t126\t3\n", "a second log");
+    expect(memory[YIRVAGUL_REPORT_RECORDS] == 3 && memory[YIRVAGUL_REPORT_EXCEPTIONS] == 2, "records and exceptions");
+    expect(memory[2] == -128 && memory[3] == 127 && memory[4] == 126 && memory[5] == 3 && memory[6] == -7, "the leaf's words, and the one behind them");
+    expect_report(report(BITS, BITS, 0, NULL, 0, memory, 2, 31), HEAD, "a report without ints");
+
+    expect_refused("int\t9\n", BYTE, 1, 1, held, WORDS, 100, YIRVAGUL_SOURCE, 1, "SOURCE, report");
+    expect_refused(BYTE, BYTE "x\n", 1, 1, held, WORDS, 100, YIRVAGUL_DESTINATION, 2, "DESTINATION, report");
+    expect_refused(BITS, WIDE, 65537, 1, held, WORDS, 100, YIRVAGUL_CHANNEL, 0, "CHANNEL before PATH and COUNT");
+    expect_refused(BITS, BYTE, 65537, 1, held, WORDS, 100, YIRVAGUL_PATH, 0, "PATH, report");
+    expect_refused(BYTE, BYTE, 65537, 1, held, WORDS, 100, YIRVAGUL_COUNT, 0, "COUNT, report");
+    expect_refused(BYTE, BYTE, 2, 1, held, WORDS, 100, YIRVAGUL_ROOM, 0, "ROOM, a short log");
+    expect_refused(BYTE, PAIR, 3, 3, held, WORDS, 100, YIRVAGUL_ROOM, 0, "ROOM, a log that grows");
+    expect_refused(BYTE, BYTE, 1, 1, held, 5, 100, YIRVAGUL_ROOM, 0, "ROOM, a short memory");
+    expect_refused(BYTE, BYTE, 1, 1, held, WORDS, strlen(HEAD "0\t5\t9\t19\t3\n") - 1, YIRVAGUL_ROOM, 0, "ROOM, a short output");
+    held[0] = limit, expect_refused(BYTE, BYTE, 1, 1, held, WORDS, 0, YIRVAGUL_FULL, 0, "FULL, records, before the output");
+    held[0] = -1, expect_refused(BYTE, BYTE, 1, 1, held, WORDS, 100, YIRVAGUL_FULL, 0, "FULL, negative records");
+    held[0] = 0, held[5] = -1, expect_refused(BYTE, BYTE, 1, 1, held, WORDS, 100, YIRVAGUL_FULL, 0, "FULL, negative samples");
+    held[5] = 2, held[4] = -most - 1, expect_refused(BYTE, BYTE, 1, 1, held, WORDS, 100, YIRVAGUL_FULL, 0, "FULL, a word past 2^52");
+    held[4] = INT64_MIN, expect_refused(BYTE, BYTE, 0, 0, held, WORDS, 100, YIRVAGUL_FULL, 0, "FULL, the lowest word");
+    held[4] = -most, log[0] = 1;
+    expect_report(report(BYTE, BYTE, 1, log, 1, held, 6, sizeof output), HEAD "0\t1\t9\t-4503599627370495\t3\n", "a word of 2^52");
+}
+
+/* A season of the largest report: the header's sizes hold it. */
+static void test_largest_report(void) {
+    static int64_t memory[YIRVAGUL_REPORT_WORDS];
+    static uint8_t log[4096], zeros[4096];
+    const char *sheet = BYTE "array\t0\t4096\n";
+    size_t leaf;
+    memset(log, 255, sizeof log);
+    for (leaf = 0; leaf < 4096; leaf++) {
+        int64_t *words = memory + YIRVAGUL_REPORT_LEAVES + YIRVAGUL_REPORT_LEAF_WORDS * leaf;
+        words[0] = words[1] = words[2] = -((int64_t)1 << 52);
+        words[3] = (int64_t)1 << 52;
+    }
+    expect(yirvagul_report((const uint8_t *)sheet, strlen(sheet), (const uint8_t *)sheet, strlen(sheet), 0, NULL, 0, NULL, 0, memory, YIRVAGUL_REPORT_WORDS,
+                           output, sizeof output, table, YIRVAGUL_TABLE_WORDS, answer) == YIRVAGUL_DONE,
+           "the largest report");
+    /* the first 1,000 leaves have fewer digits in their first column */
+    expect(answer[YIRVAGUL_ANSWER_COUNT] == YIRVAGUL_REPORT_BYTES - 10 * 3 - 90 * 2 - 900, "its length");
+    memset(memory, 0, sizeof memory);
+    expect(yirvagul_report((const uint8_t *)sheet, strlen(sheet), (const uint8_t *)sheet, strlen(sheet), 1, log, sizeof log, zeros, sizeof zeros, memory,
+                           YIRVAGUL_REPORT_WORDS, output, sizeof output, table, YIRVAGUL_TABLE_WORDS, answer) == YIRVAGUL_DONE,
+           "a log of 4,096 leaves");
+    expect(memory[YIRVAGUL_REPORT_WORDS - 1] == 1 && memory[YIRVAGUL_REPORT_WORDS - 4] == 255, "its last leaf");
+}
+
 static void test_list(void) {
     static uint8_t list[YIRVAGUL_LIST_BYTES];
     const char *wanted = "at\tsize\tclass\n0\t1\tbits\n";
@@ -204,15 +297,18 @@ static void test_null(void) {
     expect_answer(yirvagul_convert_in_place_plain(byte, len, byte, len, 1, out, 1, NULL, 0, table, YIRVAGUL_TABLE_WORDS, answer), 7, 0, 0, 0, 0, 0,
                   "ROOM, a NULL background");
     expect(out[0] == 0x77, "ROOM leaves the buffers");
+    expect_answer(yirvagul_report(byte, len, byte, len, 0, NULL, 0, NULL, 0, NULL, 0, NULL, 0, table, YIRVAGUL_TABLE_WORDS, answer), 7, 0, 0, 0, 0, 0,
+                  "ROOM, a NULL memory");
+    expect_answer(yirvagul_report(byte, len, byte, len, 0, NULL, 0, NULL, 0, NULL, 0, NULL, 0, NULL, 0, answer), 2, 0, 0, 0, 0, 0, "TABLE, report");
     expect_answer(yirvagul_leaf_list(NULL, 0, NULL, 0, table, YIRVAGUL_TABLE_WORDS, answer), 3, 0, 1, 0, 0, 0, "the list of a NULL sheet");
     expect_answer(yirvagul_leaf_list(byte, len, NULL, 0, table, YIRVAGUL_TABLE_WORDS, answer), 7, 0, 0, 0, 0, 0, "ROOM, a NULL list");
     expect_answer(yirvagul_leaf_list(byte, len, NULL, 0, NULL, 0, answer), 2, 0, 0, 0, 0, 0, "TABLE, a NULL table");
 }
 
 static void test_names(void) {
-    static const char *const names[] = {"DONE", "HANDLING", "TABLE", "SOURCE", "DESTINATION", "PATH", "COUNT", "ROOM", "STOP", "RANGE"};
+    static const char *const names[] = {"DONE", "HANDLING", "TABLE", "SOURCE", "DESTINATION", "PATH", "COUNT", "ROOM", "STOP", "RANGE", "CHANNEL", "FULL"};
     uint32_t number;
-    for (number = 0; number <= YIRVAGUL_RANGE; number++) expect(strcmp(yirvagul_name(number), names[number]) == 0, names[number]);
+    for (number = 0; number <= YIRVAGUL_FULL; number++) expect(strcmp(yirvagul_name(number), names[number]) == 0, names[number]);
     expect(strcmp(yirvagul_name(4294967295u), "UNKNOWN") == 0, "the name of a number that is none");
 }
 
@@ -223,6 +319,8 @@ static void test_names(void) {
 int main(void) {
     test_copying();
     test_in_place();
+    test_report();
+    test_largest_report();
     test_list();
     test_table();
     test_record_size();

@@ -53,15 +53,36 @@ impl Arguments {
 
     /// The files, which are as many as their names.
     pub fn files<const N: usize>(&self, names: [&str; N]) -> Result<[&OsStr; N], Failure> {
-        let files: Vec<&OsStr> = self.files.iter().map(OsString::as_os_str).collect();
-        let n = files.len();
-        files.try_into().map_err(|_| {
+        let n = self.files.len();
+        self.all().try_into().map_err(|_| {
             let names = names.join(" ");
             Failure::usage(match N {
                 1 => format!("it takes one file, {names}, and {n} are there"),
                 _ => format!("it takes {N} files, {names}, and {n} are there"),
             })
         })
+    }
+
+    /// The files with these names, and one or more behind them.
+    pub fn files_and_more<const N: usize>(
+        &self,
+        names: [&str; N],
+        more: &str,
+    ) -> Result<([&OsStr; N], Vec<&OsStr>), Failure> {
+        let (mut first, n) = (self.all(), self.files.len());
+        let others = first.split_off(N.min(n));
+        match first.try_into() {
+            Ok(first) if !others.is_empty() => Ok((first, others)),
+            _ => Err(Failure::usage(format!(
+                "it takes {} files or more, {} {more}, and {n} are there",
+                N + 1,
+                names.join(" ")
+            ))),
+        }
+    }
+
+    fn all(&self) -> Vec<&OsStr> {
+        self.files.iter().map(OsString::as_os_str).collect()
     }
 
     pub fn has(&self, flag: &str) -> bool {

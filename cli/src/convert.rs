@@ -4,10 +4,9 @@ use crate::failure::Failure;
 use crate::progress::Bar;
 use crate::{files, Command};
 use std::ffi::{OsStr, OsString};
-use std::fs::File;
 use std::io::{self, IsTerminal};
 use std::path::Path;
-use yirvagul::{Error, Handling, Input, LogConverter, LogError, Output};
+use yirvagul::{Handling, LogConverter, LogError, Output};
 
 pub const COMMAND: Command = Command {
     name: "convert",
@@ -40,8 +39,7 @@ example:
 
 fn run(words: Vec<OsString>) -> Result<(), Failure> {
     let arguments = Arguments::new(words, &["--clamp", "--stop"], &["--background", "--jobs"])?;
-    let names = arguments.files(["FROM.sheet", "TO.sheet", "IN", "OUT"])?;
-    let [from, to, log, out] = names;
+    let [from, to, log, out] = arguments.files(["FROM.sheet", "TO.sheet", "IN", "OUT"])?;
     let background = arguments.option("--background");
     let handling = handling(&arguments)?;
     let jobs = jobs(arguments.option("--jobs"))?;
@@ -51,13 +49,13 @@ fn run(words: Vec<OsString>) -> Result<(), Failure> {
     let (mut log_file, mut background_file) = (None, None);
     let mut converter = LogConverter::new(&sheets.0, &sheets.1, handling).jobs(jobs);
     if let Some(background) = background {
-        converter = converter.background(input(background, &mut background_file)?);
+        converter = converter.background(files::input(background, &mut background_file)?);
     }
     if io::stderr().is_terminal() {
         let mut bar = Bar::new();
         converter = converter.progress(move |progress| bar.show(progress));
     }
-    let input = input(log, &mut log_file)?;
+    let input = files::input(log, &mut log_file)?;
     let mut out_file;
     let output = if files::is_standard(out) {
         out_file = files::standard_output()?;
@@ -67,12 +65,13 @@ fn run(words: Vec<OsString>) -> Result<(), Failure> {
     };
     let totals = converter
         .convert(input, output)
-        .map_err(|error| failure(error, names, background))?;
-    files::note(&format!(
-        "{}, {}",
-        many(totals.records, "record"),
-        many(totals.exceptions, "exception")
-    ));
+        .map_err(|error| match (&error, background) {
+            (LogError::Background { .. }, Some(background)) => {
+                Failure::Io(format!("{}: {error}", files::said(background)))
+            }
+            _ => Failure::of_log(error, from, to, log),
+        })?;
+    files::note(&said(totals.records, totals.exceptions));
     Ok(())
 }
 
@@ -95,34 +94,13 @@ fn jobs(value: Option<&OsStr>) -> Result<usize, Failure> {
     })
 }
 
-/// A file to read, or standard input, which is kept open in `standard`.
-fn input<'a>(name: &'a OsStr, standard: &'a mut Option<File>) -> Result<Input<'a>, Failure> {
-    if files::is_standard(name) {
-        return Ok(Input::File(standard.insert(files::standard_input()?)));
-    }
-    Ok(Input::Path(Path::new(name)))
-}
-
-/// Adds the names of the files that an error is about.
-fn failure(error: LogError, names: [&OsStr; 4], background: Option<&OsStr>) -> Failure {
-    let [from, to, log, _] = names.map(files::said);
-    match error {
-        LogError::Refused(error) => {
-            let about = match error {
-                Error::Source { .. } => from,
-                Error::Destination { .. } => to,
-                Error::Stop { .. } => log,
-                _ => format!("{from} to {to}"),
-            };
-            Failure::Refused(about, error)
-        }
-        LogError::Ragged { .. } => Failure::Io(format!("{log}: {error}")),
-        LogError::Background { .. } => {
-            let background = background.map(files::said).unwrap_or_default();
-            Failure::Io(format!("{background}: {error}"))
-        }
-        _ => Failure::Io(error.to_string()),
-    }
+/// How many records and exceptions there were.
+pub fn said(records: u64, exceptions: u64) -> String {
+    format!(
+        "{}, {}",
+        many(records, "record"),
+        many(exceptions, "exception")
+    )
 }
 
 fn many(n: u64, what: &str) -> String {

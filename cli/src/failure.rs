@@ -1,20 +1,41 @@
 //! Why a command failed, and its exit status.
-use std::fmt;
+use crate::files::said;
+use std::ffi::OsStr;
+use std::fmt::{self, Display};
 use std::process::ExitCode;
-use yirvagul::Error;
+use yirvagul::{Error, LogError};
 
 pub enum Failure {
     /// The words make no command: what is wrong with them, and the command if there is one.
     Usage(String, Option<&'static str>),
     /// Input or output failed.
     Io(String),
-    /// The library refused: the files that it is about, and its refusal.
-    Refused(String, Error),
+    /// The library refused.
+    Refused(String),
 }
 
 impl Failure {
     pub fn usage(what: impl Into<String>) -> Failure {
         Failure::Usage(what.into(), None)
+    }
+
+    /// A refusal, with the files that it is about.
+    pub fn refused(files: impl Display, why: impl Display) -> Failure {
+        Failure::Refused(format!("{files}: {why}"))
+    }
+
+    /// Adds the names of the files that an error of a log is about.
+    pub fn of_log(error: LogError, from: &OsStr, to: &OsStr, log: &OsStr) -> Failure {
+        match error {
+            LogError::Refused(error) => match error {
+                Error::Source { .. } => Failure::refused(said(from), error),
+                Error::Destination { .. } => Failure::refused(said(to), error),
+                Error::Stop { .. } | Error::Full { .. } => Failure::refused(said(log), error),
+                _ => Failure::refused(format!("{} to {}", said(from), said(to)), error),
+            },
+            LogError::Ragged { .. } => Failure::Io(format!("{}: {error}", said(log))),
+            _ => Failure::Io(error.to_string()),
+        }
     }
 
     /// The same, of this command.
@@ -41,8 +62,7 @@ impl fmt::Display for Failure {
             Failure::Usage(what, Some(command)) => {
                 write!(f, "{what}: see `yirvagul {command} --help`")
             }
-            Failure::Io(what) => f.write_str(what),
-            Failure::Refused(files, error) => write!(f, "{files}: {error}"),
+            Failure::Io(what) | Failure::Refused(what) => f.write_str(what),
         }
     }
 }

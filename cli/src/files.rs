@@ -5,6 +5,7 @@ use std::fs::File;
 use std::io::{self, Read, Write};
 use std::os::fd::AsFd;
 use std::path::Path;
+use yirvagul::Input;
 
 /// One byte more than a sheet may have, so that one that is too long is seen to be.
 const SHEET_BYTES: u64 = 16_385;
@@ -35,6 +36,14 @@ pub fn standard_input() -> Result<File, Failure> {
     let file = io::stdin().as_fd().try_clone_to_owned();
     file.map(File::from)
         .map_err(|error| Failure::Io(format!("cannot read standard input: {error}")))
+}
+
+/// A file to read, or standard input, which is kept open in `standard`.
+pub fn input<'a>(name: &'a OsStr, standard: &'a mut Option<File>) -> Result<Input<'a>, Failure> {
+    if is_standard(name) {
+        return Ok(Input::File(standard.insert(standard_input()?)));
+    }
+    Ok(Input::Path(Path::new(name)))
 }
 
 /// Standard output, with nothing held back before it.

@@ -35,7 +35,7 @@ fn run(words: Vec<OsString>) -> Result<(), Failure> {
                 _ => 0,
             };
             files::put(format!("refused\t{}\t{line}\n", error.number()).as_bytes())?;
-            Err(Failure::Refused(files::said(name), error))
+            Err(Failure::refused(files::said(name), error))
         }
     }
 }

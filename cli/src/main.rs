@@ -7,6 +7,7 @@ mod failure;
 mod files;
 mod list;
 mod progress;
+mod report;
 mod size;
 
 use failure::Failure;
@@ -22,7 +23,12 @@ struct Command {
     run: fn(Vec<OsString>) -> Result<(), Failure>,
 }
 
-const COMMANDS: [Command; 3] = [convert::COMMAND, list::COMMAND, size::COMMAND];
+const COMMANDS: [Command; 4] = [
+    convert::COMMAND,
+    report::COMMAND,
+    list::COMMAND,
+    size::COMMAND,
+];
 
 fn main() -> ExitCode {
     match run(std::env::args_os().skip(1).collect()) {

@@ -24,6 +24,6 @@ fn run(words: Vec<OsString>) -> Result<(), Failure> {
     let sheet = files::read_sheet(name)?;
     match yirvagul::record_size(&sheet) {
         Ok(size) => files::put(format!("{size}\n").as_bytes()),
-        Err(error) => Err(Failure::Refused(files::said(name), error)),
+        Err(error) => Err(Failure::refused(files::said(name), error)),
     }
 }

@@ -99,7 +99,14 @@ fn usage() {
 #[test]
 fn help_has_an_example() {
     let folder = Folder::new("help");
-    for words in ["--help", "-h", "convert --help", "list --help", "size -h"] {
+    for words in [
+        "--help",
+        "-h",
+        "convert --help",
+        "report --help",
+        "list --help",
+        "size -h",
+    ] {
         let ran = folder.run(words);
         let said = String::from_utf8(ran.out).unwrap();
         assert_eq!((ran.status, &ran.error[..]), (0, ""), "{words}");

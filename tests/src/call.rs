@@ -11,7 +11,7 @@ use std::rc::Rc;
 #[derive(Clone, Copy, Debug, Default, PartialEq, Eq)]
 pub struct Answer {
     pub number: u64,
-    /// Exceptions, the length of a list, or the size of a record.
+    /// Exceptions, the length of a list or a report, or the size of a record.
     pub count: u64,
     pub line: u64,
     pub record: u64,
@@ -130,22 +130,34 @@ fn checked(call: &Call) -> Result<(Rc<Datatype>, Rc<Datatype>), Answer> {
     {
         return Err(Answer::refused(1));
     }
+    let (from, to) = read_sheets(call)?;
+    check_path_and_count(call, &from, &to)?;
+    Ok((from, to))
+}
+
+/// Checks 2 to 4.
+pub fn read_sheets(call: &Call) -> Result<(Rc<Datatype>, Rc<Datatype>), Answer> {
     if call.table.len() < 8192 {
         return Err(Answer::refused(2));
     }
     let from = sheet::read(call.source_sheet).map_err(|line| Answer::faulty(3, line))?;
     let to = sheet::read(call.destination_sheet).map_err(|line| Answer::faulty(4, line))?;
-    if !paths::has_path(&from, &to) {
+    Ok((from, to))
+}
+
+/// Checks 5 and 6.
+pub fn check_path_and_count(call: &Call, from: &Datatype, to: &Datatype) -> Result<(), Answer> {
+    if !paths::has_path(from, to) {
         return Err(Answer::refused(5));
     }
     if call.count > 65_536 {
         return Err(Answer::refused(6));
     }
-    Ok((from, to))
+    Ok(())
 }
 
 /// nS and nD.
-fn lengths(call: &Call, from: &Datatype, to: &Datatype) -> (u128, u128) {
+pub fn lengths(call: &Call, from: &Datatype, to: &Datatype) -> (u128, u128) {
     let count = u128::from(call.count);
     (
         count * u128::from(from.size()),

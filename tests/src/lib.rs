@@ -1,5 +1,5 @@
-//! A second converter, written from document 01 alone and kept slow and
-//! plain. The proved library is held against it.
+//! A second converter, written from documents 01 and 02 alone and kept slow
+//! and plain. The proved library is held against it.
 
 pub mod call;
 pub mod datatype;
@@ -7,6 +7,7 @@ pub mod field;
 pub mod list;
 pub mod number;
 pub mod paths;
+pub mod report;
 pub mod setters;
 pub mod sheet;
 pub mod size;
@@ -15,3 +16,5 @@ pub mod size;
 mod exercises;
 #[cfg(test)]
 mod faults;
+#[cfg(test)]
+mod seasons;

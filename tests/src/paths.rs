@@ -113,6 +113,11 @@ fn follow<'a>(source: &'a Datatype, way: &[Step]) -> Option<Leaf<'a>> {
     })
 }
 
+/// Whether a destination leaf is matched. Asks for datatypes that have a path.
+pub fn is_matched(source: &Datatype, leaf: &Leaf) -> bool {
+    follow(source, &leaf.way).is_some()
+}
+
 /// The matched destination leaves. Asks for datatypes that have a path.
 pub fn matches<'a>(source: &'a Datatype, destination: &'a Datatype) -> Vec<Match<'a>> {
     let mut found = Vec::new();

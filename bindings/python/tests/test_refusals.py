@@ -7,8 +7,9 @@ import unittest
 
 import yirvagul
 from common import BITS, BYTE, CUSTOMER, PAIR, RIG, SIGNED
-from yirvagul import Class, Handling, Kind, Layout, Number, Order, Pad, Refusal, Short, Sign, _explain, _library
+from yirvagul import Class, Handling, Kind, Layout, Number, Order, Pad, Refusal, Report, Short, Sign, _explain, _library
 
+WIDE = "int\t8\tLE\t0\t33\tzero\tzero\tsigned\narray\t0\t2\ncomp\t16\nmember\toil\t0\t1\n"
 LOG = bytes.fromhex("06 40 7d 00 ff f0 00 00  00 00 00 10 00 20 00 07")
 
 
@@ -43,6 +44,10 @@ def refuse(number):
         yirvagul.convert_copying(RIG, CUSTOMER, 2, Handling.STOP, LOG, out)
     elif number == Number.RANGE:
         Layout(Class.INT, 2, Order.BE, 4, 12, Pad.ZERO, Pad.ZERO, Sign.UNSIGNED).set_offset(53)
+    elif number == Number.CHANNEL:
+        Report(WIDE)
+    elif number == Number.FULL:
+        Report(BYTE).add(BYTE, bytes(Report.MOST_RECORDS + 1))
 
 
 def refusal(number):
@@ -69,10 +74,12 @@ WORDS = {
     "the destination is too short: it holds 14 bytes and needs 21: lend longer ones",
     Number.STOP: "STOP (8): record 1, `valve` at byte 0: "
     "the number has no symbol, or its symbol is not in the destination: complete the enums, or clamp",
+    Number.CHANNEL: "CHANNEL (10): `oil[0]` has 33 bits, and a report takes ints of at most 32: narrow it in the reader's sheet, or leave it out",
+    Number.FULL: "FULL (11): the report would have 1,048,577 records or more, and it takes 1,048,576: begin a new report",
     Number.RANGE: "RANGE (9): offset 53 and precision 12 do not fit 8 bytes: keep the offset within 0 to 52",
 }
 
-FIELDS = ("number", "name", "sheet", "line", "text", "rule", "member", "count", "short", "record", "at", "kind", "answer", "args")
+FIELDS = ("number", "name", "sheet", "line", "text", "rule", "member", "count", "short", "record", "at", "kind", "precision", "answer", "args")
 
 
 def fields(refused):
@@ -97,10 +104,12 @@ class Messages(unittest.TestCase):
             Number.ROOM: {"short": (Short("source", 16, 24), Short("destination", 14, 21))},
             Number.STOP: {"record": 1, "at": 0, "kind": Kind.NO_SYMBOL, "member": "valve"},
             Number.RANGE: {},
+            Number.CHANNEL: {"member": "oil[0]", "precision": 33},
+            Number.FULL: {"count": 1048577},
         }
         for number in NUMBERS:
             has = fields(refusal(number))
-            for name in ("line", "text", "member", "count", "record", "at", "kind"):
+            for name in ("line", "text", "member", "count", "record", "at", "kind", "precision"):
                 self.assertEqual(has[name], told[number].get(name), (number, name))
             self.assertEqual(has["short"], told[number].get("short", ()))
 
@@ -155,6 +164,8 @@ class Messages(unittest.TestCase):
                 "RANGE (9): the argument or the layout breaks the rules of a layout: size 1 to 8 bytes, precision 1 to 64 bits, "
                 "offset + precision within the size, no sign on bits",
             ),
+            (Refusal(10), "CHANNEL (10): an int of the reader's sheet has more than 32 bits: narrow it, or leave it out"),
+            (Refusal(11), "FULL (11): the report is full, or its memory holds what no report's does: begin a new report"),
         ):
             self.assertEqual(str(refused), words)
 
@@ -164,13 +175,14 @@ class Messages(unittest.TestCase):
         refused = _explain.refusal((8, 0, 0, 3, 8, 1, 0, 0), new, new)
         self.assertEqual((refused.record, refused.at, refused.kind, refused.member), (3, 8, Kind.ABOVE, None))
         self.assertEqual(_explain.refusal((5, 0, 0, 0, 0, 0, 0, 0), new, new).rule, None)
+        self.assertEqual(str(_explain.refusal((10, 0, 0, 0, 0, 0, 0, 0), new, new)), str(Refusal(10)))
         same = BYTE.encode()
         self.assertEqual(str(_explain.refusal((5, 0, 0, 0, 0, 0, 0, 0), same, same)), str(Refusal(5)))
 
 
 class FromANewerLibrary(unittest.TestCase):
     def test_numbers(self):
-        for number in (10, 12, 15, 255, 1 << 32):
+        for number in (12, 15, 255, 1 << 32):
             answer = (number, 0, 7, 0, 0, 0, 0, 0)
             refused = _explain.refusal(answer, BYTE.encode(), BYTE.encode(), count=1)
             self.assertEqual((refused.number, refused.name, refused.answer), (number, "UNKNOWN", answer))

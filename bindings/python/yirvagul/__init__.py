@@ -1,10 +1,11 @@
-"""Converts records of instrument logs from one binary layout to another, lists a layout's leaves, and edits atomic layouts.
+"""Converts records of instrument logs from one binary layout to another, reports on the numbers of many logs, lists a layout's leaves, and edits
+atomic layouts.
 
 A wrapper over Yirvagul's proved C library. A sheet is text or its bytes. A buffer that is read is anything with contiguous bytes (bytes, bytearray,
 memoryview, mmap, array, numpy array); one that is written is writable and shares no byte with one that is read, which is checked but for two mappings
 of one file. Nothing is copied but sheets.
 
-A refused call raises `Refusal` and leaves buffers, layouts and logs as they were. Handling is what to do with numbers that do not fit:
+A refused call raises `Refusal` and leaves buffers, layouts, logs and reports as they were. Handling is what to do with numbers that do not fit:
 `Handling.CLAMP` writes the nearest that fits and counts it, `Handling.STOP` refuses.
 
 Calls keep nothing and let other threads run meanwhile: any number of threads may call at once, each with buffers that no other one writes. A call
@@ -25,6 +26,7 @@ from .calls import (
 from .errors import Kind, Number, Refusal, Short
 from .layout import Class, Layout, Order, Pad, Sign
 from .log import Part, convert_log, convert_log_parts
+from .report import Report, Row, Summary
 
 __version__ = "0.1.0"
 
@@ -41,8 +43,11 @@ __all__ = [
     "Pad",
     "Part",
     "Refusal",
+    "Report",
+    "Row",
     "Short",
     "Sign",
+    "Summary",
     "convert_copying",
     "convert_copying_plain",
     "convert_in_place",

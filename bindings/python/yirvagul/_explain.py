@@ -20,7 +20,10 @@ def refusal(
     first: int = 0,
     short: Sequence[Short] = (),
 ) -> Refusal:
-    """The refusal that an answer is, to a call with one or two sheets, for count records, the first of which is number `first` of its log."""
+    """The refusal that an answer is, to a call with one or two sheets, for count records, the first of which is number `first` of its log.
+
+    For FULL, count is what the report would have.
+    """
     number = answer[0]
     if number == Number.SOURCE:
         return _faulty(answer, "source sheet" if destination_sheet is not None else "sheet", source_sheet)
@@ -40,6 +43,12 @@ def refusal(
         return Refusal(
             number, record=first + answer[RECORD], at=answer[AT], kind=answer[KIND], member=member, answer=answer
         )
+    if number == Number.CHANNEL and destination_sheet is not None:
+        destination = tree(destination_sheet)
+        wide = sheets.wide_int(destination) if destination else None
+        return Refusal(number, member=wide and wide.member, precision=wide and wide.precision, answer=answer)
+    if number == Number.FULL:
+        return Refusal(number, count=count, answer=answer)
     return Refusal(number, answer=answer)
 
 

@@ -62,6 +62,10 @@ convert_copying = _declare("convert_copying", _handled)
 convert_copying_plain = _declare("convert_copying_plain", _plain)
 convert_in_place = _declare("convert_in_place", _handled)
 convert_in_place_plain = _declare("convert_in_place_plain", _plain)
+report = _declare(
+    "report",
+    [*_bytes, *_bytes, ctypes.c_uint64, *_bytes, *_bytes, ctypes.POINTER(ctypes.c_int64), ctypes.c_size_t, *_bytes, *_end],
+)
 leaf_list = _declare("leaf_list", [*_bytes, *_bytes, *_end])
 record_size = _declare("record_size", [*_bytes, *_end])
 

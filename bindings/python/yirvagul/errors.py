@@ -20,6 +20,8 @@ class Number(enum.IntEnum):
     ROOM = 7
     STOP = 8
     RANGE = 9
+    CHANNEL = 10
+    FULL = 11
 
 
 class Kind(enum.IntEnum):
@@ -50,7 +52,7 @@ def _known(codes: type[_Code], number: int) -> Union[_Code, int]:
 
 
 class Refusal(Exception):
-    """A refused call. It left data buffers, layouts and logs as they were.
+    """A refused call. It left data buffers, layouts, logs and reports as they were.
 
     Every refusal has `number` and `name`. Of the others, those that the number does not name, or that could not be told, are None (`short`: empty):
 
@@ -60,6 +62,8 @@ class Refusal(Exception):
     - ROOM: `short`, each buffer that is too short
     - STOP: `record`, from 0; `at`, the first byte of the leaf in its destination record; `kind`; the `member`, such as `boost[1]`
     - RANGE: the `rule` that an argument or the layout breaks
+    - CHANNEL: the `member` that is too wide for a report, and its `precision`, in bits
+    - FULL: `count`, the number of records that the report would have
 
     A number or a kind that this version does not know is kept as it came: the name is then UNKNOWN, and `answer` has all words of the answer.
     """
@@ -78,6 +82,7 @@ class Refusal(Exception):
         record: Optional[int] = None,
         at: Optional[int] = None,
         kind: Optional[int] = None,
+        precision: Optional[int] = None,
         answer: Sequence[int] = (),
     ) -> None:
         self.number = _known(Number, number)
@@ -86,6 +91,7 @@ class Refusal(Exception):
         self.count, self.short = count, tuple(short)
         self.record, self.at = record, at
         self.kind = None if kind is None else _known(Kind, kind)
+        self.precision = precision
         self.answer = tuple(answer)
         said = _MESSAGES.get(int(number), _unknown)(self)
         super().__init__(f"{self.name} ({int(number)}): {said}")
@@ -158,6 +164,19 @@ def _range(refused: Refusal) -> str:
     )
 
 
+def _channel(refused: Refusal) -> str:
+    if refused.precision is None:
+        return "an int of the reader's sheet has more than 32 bits: narrow it, or leave it out"
+    which = "the record" if refused.member is None else quoted(refused.member)
+    return f"{which} has {refused.precision} bits, and a report takes ints of at most 32: narrow it in the reader's sheet, or leave it out"
+
+
+def _full(refused: Refusal) -> str:
+    if refused.count is None:
+        return "the report is full, or its memory holds what no report's does: begin a new report"
+    return f"the report would have {refused.count:,} records or more, and it takes 1,048,576: begin a new report"
+
+
 def _unknown(refused: Refusal) -> str:
     words = f" (its answer is {' '.join(map(str, refused.answer))})" if refused.answer else ""
     return f"the library refused with a number that this version of yirvagul does not know{words}: take the version of the library"
@@ -173,4 +192,6 @@ _MESSAGES: dict[int, Callable[[Refusal], str]] = {
     Number.ROOM: _room,
     Number.STOP: _stop,
     Number.RANGE: _range,
+    Number.CHANNEL: _channel,
+    Number.FULL: _full,
 }

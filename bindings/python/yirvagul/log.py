@@ -51,8 +51,8 @@ def convert_log(
     end, by a rename. Before a file or a buffer is written, all parts are gone over; a source that cannot be read twice goes through a temporary
     file. The source must not change meanwhile.
     """
-    job = _Job(source_sheet, destination_sheet, handling)
-    with _opened(source) as log:
+    job = Job(source_sheet, destination_sheet, handling)
+    with opened(source) as log:
         job.check_length(log.length)
         if isinstance(destination, (str, os.PathLike)):
             return _into_path(job, log, destination)
@@ -77,14 +77,14 @@ def convert_log_parts(
             out.write(part.data)
             print(part.first + part.records, "records")
     """
-    job = _Job(source_sheet, destination_sheet, handling)
-    with _opened(source) as log:
+    job = Job(source_sheet, destination_sheet, handling)
+    with opened(source) as log:
         job.check_length(log.length)
     return _handed_out(job, source)
 
 
-def _handed_out(job: _Job, source: Any) -> Iterator[Part]:
-    with _opened(source) as log:
+def _handed_out(job: Job, source: Any) -> Iterator[Part]:
+    with opened(source) as log:
         for first, count, where in job.parts(log):
             data = bytearray(count * job.destination_size)
             exceptions = job.convert_into(data, first, count, where)
@@ -170,7 +170,7 @@ _Log = Union[_Memory, _Stream]
 
 
 @contextlib.contextmanager
-def _opened(source: Any) -> Iterator[_Log]:
+def opened(source: Any) -> Iterator[_Log]:
     if isinstance(source, (str, os.PathLike)):
         with open(source, "rb") as file, contextlib.closing(_Stream(file)) as log:
             yield log
@@ -217,7 +217,7 @@ def _read(file: IO[bytes], size: int) -> bytes:
 # ---- the parts
 
 
-class _Job:
+class Job:
     """What all parts of a log have in common."""
 
     def __init__(self, source_sheet: Sheet, destination_sheet: Sheet, handling: Handling) -> None:
@@ -296,7 +296,7 @@ class _Job:
 # ---- the destination
 
 
-def _into_path(job: _Job, log: _Log, path: Path) -> int:
+def _into_path(job: Job, log: _Log, path: Path) -> int:
     """Into a new file beside the path, which then takes its name. What is no regular file, such as a device or a pipe, is written as a file."""
     target = os.path.realpath(path)
     mode = os.stat(target).st_mode if os.path.exists(target) else None
@@ -326,13 +326,13 @@ def _into_path(job: _Job, log: _Log, path: Path) -> int:
     return exceptions
 
 
-def _into_file(job: _Job, log: _Log, file: IO[bytes]) -> int:
+def _into_file(job: Job, log: _Log, file: IO[bytes]) -> int:
     if isinstance(log, _Stream) and _same_file(log.file, file):
         raise ValueError("the source and the destination are one file: name its path as the destination, or another file")
     return job.write(log, file, job.go_over(log))
 
 
-def _into_buffer(job: _Job, log: _Log, out: Held) -> int:
+def _into_buffer(job: Job, log: _Log, out: Held) -> int:
     if isinstance(log, _Memory):
         out.apart(log.held)
     if log.length is not None:

@@ -1,4 +1,5 @@
-"""A reading of sheets in Python, for explanations: which rule a line breaks, which members have no path, whose byte a leaf's first byte is.
+"""A reading of sheets in Python, for explanations: which rule a line breaks, which members have no path, whose byte a leaf's first byte is,
+which int is too wide for a report.
 
 It explains and never decides: what counts is the library's answer.
 """
@@ -400,6 +401,33 @@ def _index(place: int, dimensions: tuple[int, ...]) -> str:
         place, index = divmod(place, dimension)
         indices.insert(0, index)
     return "".join(f"[{index}]" for index in indices)
+
+
+class Wide(NamedTuple):
+    """An int leaf that is too wide for a report: its name, as of `leaf_name`, and its bits."""
+
+    member: Optional[str]
+    precision: int
+
+
+def wide_int(type_: Type) -> Optional[Wide]:
+    """The first int leaf, in byte order, of more than 32 bits."""
+    found = _wide_int(type_, 0)
+    return None if found is None else Wide(leaf_name(type_, found[0]), found[1])
+
+
+def _wide_int(type_: Type, at: int) -> Optional[tuple[int, int]]:
+    """Its first byte and its bits, in a type that starts at a byte. The elements of an array are all alike."""
+    if isinstance(type_, Atomic):
+        return (at, type_.precision) if type_.class_ == Class.INT and type_.precision > 32 else None
+    if isinstance(type_, Array):
+        return _wide_int(type_.base, at)
+    if isinstance(type_, Compound):
+        for member in sorted(type_.members, key=lambda member: member.at):
+            found = _wide_int(member.type, at + member.at)
+            if found:
+                return found
+    return None
 
 
 class NoPath(NamedTuple):

@@ -89,7 +89,7 @@ pub struct Short {
     pub needs: u64,
 }
 
-/// A refused call. It left data buffers, lists and layouts as they were.
+/// A refused call. It left data buffers, lists, reports and layouts as they were.
 ///
 /// Its text says what is wrong, where, and what to do. The fields that are `Option`s are explanations: this crate reads the sheets once more to find them, and
 /// where it finds none the text says only what the library answered.
@@ -163,6 +163,20 @@ pub enum Error {
     },
     /// A setter's argument or result is outside its rule, or the layout was.
     Range,
+    /// An int leaf of a reader's sheet has more than 32 bits.
+    #[non_exhaustive]
+    Channel {
+        /// The first one's name, as `boost[0]`; empty where the record itself is the leaf.
+        member: Option<String>,
+        /// Its bits.
+        precision: Option<u32>,
+    },
+    /// A report would have more than [`Report::MOST_RECORDS`](crate::Report::MOST_RECORDS) records; or its memory holds what no report's does.
+    #[non_exhaustive]
+    Full {
+        /// The records that it would have, with those of the log as far as it was read; none where its memory is at fault.
+        records: Option<u64>,
+    },
     /// A refusal that this version of the crate does not know.
     #[non_exhaustive]
     Unknown {
@@ -186,6 +200,8 @@ impl Error {
             Error::Room { .. } => 7,
             Error::Stop { .. } => 8,
             Error::Range => 9,
+            Error::Channel { .. } => 10,
+            Error::Full { .. } => 11,
             Error::Unknown { number, .. } => *number,
         }
     }
@@ -202,6 +218,8 @@ impl Error {
             Error::Room { .. } => "ROOM",
             Error::Stop { .. } => "STOP",
             Error::Range => "RANGE",
+            Error::Channel { .. } => "CHANNEL",
+            Error::Full { .. } => "FULL",
             Error::Unknown { .. } => "UNKNOWN",
         }
     }
@@ -231,6 +249,11 @@ impl Error {
                 member,
             },
             9 => Error::Range,
+            10 => Error::Channel {
+                member,
+                precision: None,
+            },
+            11 => Error::Full { records: None },
             _ => Error::Unknown {
                 number: number as u32,
                 answer,
@@ -287,6 +310,10 @@ impl fmt::Display for Error {
                 Some(member) => write!(f, "record {record}, `{member}` at byte {at}: {kind}"),
             },
             Error::Range => f.write_str("the argument or the layout breaks the rules of a layout: size 1 to 8 bytes, precision 1 to 64 bits, offset + precision within the size, no sign on bits"),
+            Error::Channel { member: Some(member), precision: Some(precision) } => write!(f, "{} has {precision} bits, and a report takes ints of at most 32: narrow it in the reader's sheet, or leave it out", named(member)),
+            Error::Channel { .. } => f.write_str("an int of the reader's sheet has more than 32 bits: narrow it, or leave it out"),
+            Error::Full { records: Some(records) } => write!(f, "the report would have {records} records or more, and it takes 1,048,576: begin a new report"),
+            Error::Full { .. } => f.write_str("the report is full, or its memory holds what no report's does: begin a new report"),
             Error::Unknown { answer, .. } => write!(f, "a refusal that this version does not know, with the words {answer:?}: use a newer wrapper"),
         }
     }

@@ -1,7 +1,8 @@
 //! Adds to a refusal what this crate's own reading of the sheets can tell.
 use crate::error::{Buffer, Error, Short};
 use crate::raw::{self, Answer, Sheets};
-use crate::{sheet, LIST_BYTES};
+use crate::{sheet, Report, LIST_BYTES};
+use std::rc::Rc;
 
 /// What a call was given.
 pub(crate) enum Call<'a> {
@@ -9,6 +10,8 @@ pub(crate) enum Call<'a> {
     Copying(&'a Sheets<'a>, usize, usize),
     /// The lengths of buffer and background.
     InPlace(&'a Sheets<'a>, usize, usize),
+    /// With the reader's sheet for the destination's, and the records that the memory holds. No report lends a buffer that is too short.
+    Report(&'a Sheets<'a>, i64),
     /// The length of the list buffer.
     List(&'a [u8], usize),
     Size(&'a [u8]),
@@ -17,7 +20,9 @@ pub(crate) enum Call<'a> {
 impl Call<'_> {
     fn source_sheet(&self) -> &[u8] {
         match self {
-            Call::Copying(sheets, ..) | Call::InPlace(sheets, ..) => sheets.source,
+            Call::Copying(sheets, ..) | Call::InPlace(sheets, ..) | Call::Report(sheets, _) => {
+                sheets.source
+            }
             Call::List(sheet, _) | Call::Size(sheet) => sheet,
         }
     }
@@ -25,7 +30,9 @@ impl Call<'_> {
     /// None of a call of one sheet.
     fn destination_sheet(&self) -> Option<&[u8]> {
         match self {
-            Call::Copying(sheets, ..) | Call::InPlace(sheets, ..) => Some(sheets.destination),
+            Call::Copying(sheets, ..) | Call::InPlace(sheets, ..) | Call::Report(sheets, _) => {
+                Some(sheets.destination)
+            }
             Call::List(..) | Call::Size(..) => None,
         }
     }
@@ -60,10 +67,19 @@ pub(crate) fn outcome(answer: Answer, call: &Call, table: &mut [u32]) -> Result<
         }
         Error::Room { short } => *short = too_short(call, table),
         Error::Stop { at, member, .. } => {
-            let record = call
-                .destination_sheet()
-                .and_then(|sheet| sheet::read(sheet).ok());
-            *member = record.and_then(|record| sheet::leaf_at(&record, *at));
+            *member = destination(call).and_then(|record| sheet::leaf_at(&record, *at));
+        }
+        Error::Channel { member, precision } => {
+            if let Some((name, bits)) = destination(call).and_then(|r| sheet::wide_int(&r)) {
+                *member = Some(name);
+                *precision = Some(bits);
+            }
+        }
+        Error::Full { records } => {
+            if let Call::Report(sheets, held) = call {
+                let all = u64::try_from(*held).ok().map(|held| held + sheets.count);
+                *records = all.filter(|all| *all > Report::MOST_RECORDS);
+            }
         }
         _ => {}
     }
@@ -80,10 +96,14 @@ fn fault(sheet: &[u8], line: u32) -> (Option<String>, Option<String>) {
     (text, rule)
 }
 
+/// The destination's record.
+fn destination(call: &Call) -> Option<Rc<sheet::Type>> {
+    sheet::read(call.destination_sheet()?).ok()
+}
+
 fn no_path(call: &Call) -> Option<sheet::NoPath> {
     let source = sheet::read(call.source_sheet()).ok()?;
-    let destination = sheet::read(call.destination_sheet()?).ok()?;
-    sheet::no_path(&source, &destination)
+    sheet::no_path(&source, &*destination(call)?)
 }
 
 /// The first buffer that holds less than it needs.
@@ -110,7 +130,7 @@ fn too_short(call: &Call, table: &mut [u32]) -> Option<Short> {
             let whole = raw::leaf_list(sheet, &mut vec![0; LIST_BYTES], table);
             vec![(Buffer::List, *list, whole[1])]
         }
-        Call::Size(_) => vec![],
+        Call::Report(..) | Call::Size(_) => vec![],
     };
     lent.into_iter()
         .map(|(buffer, holds, needs)| Short {

@@ -1,4 +1,5 @@
-//! Converts records of instrument logs from one binary layout to another, lists a layout's leaves, and edits atomic layouts.
+//! Converts records of instrument logs from one binary layout to another, reports on the numbers of many logs, lists a layout's leaves, and edits atomic
+//! layouts.
 //!
 //! A layout sheet is text: lines ended by byte 10, fields parted by one tab. Here two pressures of 12 bits become whole 16-bit numbers:
 //!
@@ -15,6 +16,7 @@
 //! ```
 //!
 //! - [`convert_copying`] and [`convert_in_place`] convert up to 65,536 records in one call, and [`convert_log`] a log of any length.
+//! - [`Report`] adds up log after log: the lowest, the highest, the sum and the number of samples of each int.
 //! - [`leaf_list`] says where a sheet's numbers lie, [`record_size`] how many bytes its record has.
 //! - [`Layout`] is the layout of one number, with setters.
 //! - A refused call gives an [`Error`], which says what is wrong, where, and what to do.
@@ -29,6 +31,7 @@ mod layout;
 mod log;
 #[allow(unsafe_code)]
 mod raw;
+mod report;
 mod sheet;
 #[cfg(test)]
 mod tests;
@@ -41,6 +44,7 @@ pub use log::{
     ReadSeek, Totals,
 };
 use raw::Sheets;
+pub use report::{Report, Row, SavedError, Summary};
 
 /// The words that the working table needs.
 pub const TABLE_WORDS: usize = 8192;

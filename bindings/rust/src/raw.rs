@@ -66,6 +66,24 @@ mod c {
             table_len: usize,
             answer: *mut u64,
         ) -> u32;
+        pub fn yirvagul_report(
+            source_sheet: *const u8,
+            source_sheet_len: usize,
+            reader_sheet: *const u8,
+            reader_sheet_len: usize,
+            count: u64,
+            log: *mut u8,
+            log_len: usize,
+            background: *const u8,
+            background_len: usize,
+            memory: *mut i64,
+            memory_len: usize,
+            output: *mut u8,
+            output_len: usize,
+            table: *mut u32,
+            table_len: usize,
+            answer: *mut u64,
+        ) -> u32;
         pub fn yirvagul_leaf_list(
             sheet: *const u8,
             sheet_len: usize,
@@ -91,7 +109,7 @@ mod c {
     }
 }
 
-/// The two sheets and the count of a converting call.
+/// The two sheets and the count of a call that converts.
 pub struct Sheets<'a> {
     pub source: &'a [u8],
     pub destination: &'a [u8],
@@ -202,6 +220,40 @@ pub fn convert_in_place_plain(
             buffer.len(),
             background.as_ptr(),
             background.len(),
+            table.as_mut_ptr(),
+            table.len(),
+            answer.as_mut_ptr(),
+        );
+    }
+    answer
+}
+
+/// The destination sheet is the reader's.
+pub fn report(
+    sheets: &Sheets,
+    log: &mut [u8],
+    background: &[u8],
+    memory: &mut [i64],
+    output: &mut [u8],
+    table: &mut [u32],
+) -> Answer {
+    let mut answer = [0; 8];
+    // SAFETY: each pointer is a slice's, with that slice's length.
+    unsafe {
+        c::yirvagul_report(
+            sheets.source.as_ptr(),
+            sheets.source.len(),
+            sheets.destination.as_ptr(),
+            sheets.destination.len(),
+            sheets.count,
+            log.as_mut_ptr(),
+            log.len(),
+            background.as_ptr(),
+            background.len(),
+            memory.as_mut_ptr(),
+            memory.len(),
+            output.as_mut_ptr(),
+            output.len(),
             table.as_mut_ptr(),
             table.len(),
             answer.as_mut_ptr(),

@@ -1,11 +1,12 @@
 //! This crate's own reading of sheets. It explains what the library refused: the rule that a line breaks, where two types have no path, which leaf stands at a
-//! byte. The library alone decides; where this reading comes to another place than the library, it explains nothing.
+//! byte, which is too wide for a report. The library alone decides; where this reading comes to another place than the library, it explains nothing.
 use std::rc::Rc;
 
 const MOST_BYTES: usize = 16_384;
 const MOST_TYPES: usize = 64;
 const MOST_ROWS: usize = 256;
 const MOST_RECORD_BYTES: u32 = 4096;
+const MOST_CHANNEL_BITS: u32 = 32;
 
 /// A datatype as a tree.
 #[derive(Debug)]
@@ -18,6 +19,7 @@ pub(crate) struct Type {
 #[derive(Debug)]
 pub(crate) enum Class {
     Int {
+        precision: u32,
         lowest: i128,
         highest: i128,
     },
@@ -171,7 +173,10 @@ impl SoFar {
 
     fn enumeration(&self, fields: &[&[u8]]) -> Result<Type, String> {
         let base = self.older("base", fields[1])?;
-        let Class::Int { lowest, highest } = base.class else {
+        let Class::Int {
+            lowest, highest, ..
+        } = base.class
+        else {
             return Err(format!(
                 "type {} is {}: an enum's base is an int",
                 shown(fields[1]),
@@ -418,10 +423,12 @@ fn atomic(fields: &[&[u8]]) -> Result<Type, String> {
     let class = match is_signed {
         None => Class::Bits,
         Some(false) => Class::Int {
+            precision,
             lowest: 0,
             highest: (1 << precision) - 1,
         },
         Some(true) => Class::Int {
+            precision,
             lowest: -(1 << (precision - 1)),
             highest: (1 << (precision - 1)) - 1,
         },
@@ -637,6 +644,31 @@ pub(crate) fn leaf_at(record: &Type, at: u32) -> Option<String> {
                 of = base;
             }
             _ => return (at == 0).then_some(way),
+        }
+    }
+}
+
+/// The first int leaf, in byte order, of more bits than a report takes: its name, as of [`leaf_at`], and its bits.
+pub(crate) fn wide_int(record: &Type) -> Option<(String, u32)> {
+    let mut at = 0;
+    let precision = find_wide(record, &mut at)?;
+    Some((leaf_at(record, at)?, precision))
+}
+
+/// Goes down to the leaf and adds up the bytes before it. The elements of an array are all alike.
+fn find_wide(of: &Type, at: &mut u32) -> Option<u32> {
+    match &of.class {
+        Class::Int { precision, .. } => (*precision > MOST_CHANNEL_BITS).then_some(*precision),
+        Class::Bits | Class::Enum { .. } => None,
+        Class::Array { base, .. } => find_wide(base, at),
+        Class::Comp { members } => {
+            let mut members: Vec<&Member> = members.iter().collect();
+            members.sort_by_key(|member| member.at);
+            let start = *at;
+            members.into_iter().find_map(|member| {
+                *at = start + member.at;
+                find_wide(&member.of, at)
+            })
         }
     }
 }

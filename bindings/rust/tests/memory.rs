@@ -1,9 +1,9 @@
-//! What a log of 24 MB takes of memory.
+//! What a log of 24 MB takes of memory, converted and reported.
 use std::alloc::{GlobalAlloc, Layout, System};
 use std::io::{self, Read};
 use std::path::Path;
 use std::sync::atomic::{AtomicUsize, Ordering};
-use yirvagul::{Handling, Input, LogConverter, Output};
+use yirvagul::{Handling, Input, LogConverter, Output, Report};
 
 /// Counts what is held, and the most that was.
 struct Counting;
@@ -64,4 +64,15 @@ fn a_few_megabytes_are_held() {
         }
     }
     std::fs::remove_file(path).unwrap();
+    // no more than a million records
+    let small = b"int\t4\tLE\t0\t32\tzero\tzero\tunsigned\narray\t0\t8\n";
+    let large = b"int\t1\tLE\t0\t8\tzero\tzero\tunsigned\narray\t0\t4096\n";
+    for sheet in [&small[..], large] {
+        let mut zeros = io::repeat(0).take(BYTES);
+        let reported = held(|| {
+            let mut report = Report::new(sheet).unwrap();
+            report.add(sheet, Input::Stream(&mut zeros)).unwrap();
+        });
+        assert!(reported < 6 << 20, "{reported}");
+    }
 }

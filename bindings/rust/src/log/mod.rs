@@ -6,8 +6,9 @@ mod run;
 use crate::{Error, Handling};
 use input::Source;
 pub use input::{Input, ReadSeek};
+pub(crate) use output::replace;
 pub use output::Output;
-use run::{Feed, Plan, Run};
+use run::{Feed, Plan, Run, Take};
 pub use run::{Part, Parts};
 use std::{fmt, io};
 
@@ -187,6 +188,18 @@ impl<'a> LogConverter<'a> {
         let background = background.map(|input| Source::open(input, "the background"));
         Feed::new(plan, log, background.transpose()?, is_twice)
     }
+}
+
+/// Goes over a log in parts, and hands each on in a buffer that the caller's bytes were copied to.
+pub(crate) fn each_part(
+    source_sheet: &[u8],
+    destination_sheet: &[u8],
+    log: Input,
+    take: &mut Take,
+) -> Result<(), LogError> {
+    let plan = Plan::new(source_sheet, destination_sheet, Handling::Clamp, 1)?;
+    let log = Source::open(log, "the log")?;
+    Feed::new(plan, log, None, false)?.each(take)
 }
 
 /// How far a log is.

@@ -170,6 +170,22 @@ impl Replaced {
     }
 }
 
+/// Puts these bytes into the file of a path, as a log into [`Output::Path`].
+pub(crate) fn replace(path: &Path, bytes: &[u8]) -> Result<(), LogError> {
+    let name = path.display().to_string();
+    let failed = |error| LogError::io(format!("write {name}"), error);
+    match look_at(path, &name).map_err(failed)? {
+        Target::Replaced(replaced) => {
+            let mut beside = Beside::new(&replaced.path).map_err(failed)?;
+            beside.file.write_all(bytes).map_err(failed)?;
+            beside.finish(replaced.permissions, &replaced.path)
+        }
+        Target::Written(mut to, _) => to.write_all(bytes).and_then(|()| to.flush()),
+        Target::Buffer(_) => unreachable!("a path is no buffer"),
+    }
+    .map_err(failed)
+}
+
 /// A file in the folder of another, to be renamed to it; it is removed if that does not come about.
 struct Beside {
     file: File,

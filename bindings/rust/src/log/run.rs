@@ -269,6 +269,23 @@ impl<'a> Feed<'a> {
     }
 }
 
+/// Takes a part's number of records, a buffer with them that has room for as many of either layout, and as many destination records of zeros.
+pub(crate) type Take<'t> = dyn FnMut(u64, &mut [u8], &[u8]) -> Result<(), Error> + 't;
+
+impl Feed<'_> {
+    /// Hands each part on.
+    pub fn each(&mut self, take: &mut Take) -> Result<(), LogError> {
+        let mut job = Job::default();
+        while self.next(&mut job)? {
+            let background = job.out.bytes();
+            let longer = job.source.len().max(background.len());
+            sized(&mut job.source, longer)?;
+            take(job.records, &mut job.source, background)?;
+        }
+        Ok(())
+    }
+}
+
 /// Makes a buffer so long, with zeros behind what it has.
 fn sized(buffer: &mut Vec<u8>, len: usize) -> Result<(), LogError> {
     let more = len.saturating_sub(buffer.len());

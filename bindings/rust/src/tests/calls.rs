@@ -198,6 +198,20 @@ fn the_header_has_these_numbers() {
 }
 
 #[test]
+fn the_header_has_these_names() {
+    let said = |number: u64| {
+        let e = Error::from_answer([number, 0, 0, 0, 0, 0, 0, 0]);
+        (e.name(), e.number())
+    };
+    for number in 1..=11 {
+        let (name, number) = said(number);
+        let line = format!(" YIRVAGUL_{name} = {number}");
+        assert!(HEADER.contains(&line), "{line}");
+    }
+    assert!(!HEADER.contains(" = 12"));
+}
+
+#[test]
 fn the_header_has_this_version() {
     let number = |part: &str| part.parse::<u32>().unwrap();
     let version = number(env!("CARGO_PKG_VERSION_MAJOR")) * 10_000

@@ -228,6 +228,14 @@ fn all_other_texts() {
         "COUNT (6): more than 65,536 records in one call: convert them in parts, as convert_log does"
     );
     assert_eq!(
+        said(10),
+        "CHANNEL (10): an int of the reader's sheet has more than 32 bits: narrow it, or leave it out"
+    );
+    assert_eq!(
+        said(11),
+        "FULL (11): the report is full, or its memory holds what no report's does: begin a new report"
+    );
+    assert_eq!(
         said(9),
         "RANGE (9): the argument or the layout breaks the rules of a layout: size 1 to 8 bytes, precision 1 to 64 bits, offset + precision within the size, no sign on bits"
     );

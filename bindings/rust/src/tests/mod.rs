@@ -1,6 +1,7 @@
 //! Tests of the calls, and of what is said of a refusal.
 mod calls;
 mod explained;
+mod reports;
 mod rules;
 
 const BYTE: &[u8] = b"int\t1\tLE\t0\t8\tzero\tzero\tunsigned\n";

@@ -2,6 +2,7 @@
 
 use crate::lent::Lent;
 use crate::random::Random;
+use crate::report_run::{ReportRun, ReportSeen};
 use crate::run::{Form, Run, Seen};
 use independent::setters::{Setter, Words};
 
@@ -28,6 +29,12 @@ unsafe extern "C" {
         source_sheet: *const u8, source_sheet_len: usize,
         destination_sheet: *const u8, destination_sheet_len: usize, count: u64,
         buffer: *mut u8, buffer_len: usize, background: *const u8, background_len: usize,
+        table: *mut u32, table_len: usize, answer: *mut Answer) -> u32;
+    fn yirvagul_report(
+        source_sheet: *const u8, source_sheet_len: usize,
+        reader_sheet: *const u8, reader_sheet_len: usize, count: u64,
+        log: *mut u8, log_len: usize, background: *const u8, background_len: usize,
+        memory: *mut i64, memory_len: usize, output: *mut u8, output_len: usize,
         table: *mut u32, table_len: usize, answer: *mut Answer) -> u32;
     fn yirvagul_leaf_list(sheet: *const u8, sheet_len: usize, list: *mut u8, list_len: usize,
         table: *mut u32, table_len: usize, answer: *mut Answer) -> u32;
@@ -87,6 +94,39 @@ pub fn convert(random: &mut Random, run: &Run) -> Result<Seen, String> {
     whole("the destination sheet", to.unchanged())?;
     whole("the source or background", lent.unchanged())?;
     seen(returned, written, table, answer)
+}
+
+/// Runs the report.
+pub fn report(random: &mut Random, run: &ReportRun) -> Result<ReportSeen, String> {
+    let mut from = bytes(random, &run.source_sheet);
+    let mut to = bytes(random, &run.reader_sheet);
+    let mut log = bytes(random, &run.log);
+    let mut background = bytes(random, &run.background);
+    let mut memory = Lent::new(random, &run.memory, |word| word as i64);
+    let mut output = bytes(random, &run.output);
+    let mut table = words(random, &run.table);
+    let mut answer = answer(random);
+    #[rustfmt::skip]
+    let returned = unsafe {
+        yirvagul_report(
+            from.pointer(), from.len(), to.pointer(), to.len(), run.count,
+            log.pointer(), log.len(), background.pointer(), background.len(),
+            memory.pointer(), memory.len(), output.pointer(), output.len(),
+            table.pointer(), table.len(), answer.pointer().cast())
+    };
+    whole("the source sheet", from.unchanged())?;
+    whole("the reader's sheet", to.unchanged())?;
+    whole("the background", background.unchanged())?;
+    whole("words around the memory", memory.guards_hold())?;
+    whole("bytes around the log", log.guards_hold())?;
+    let seen = seen(returned, output, table, answer)?;
+    Ok(ReportSeen {
+        answer: seen.answer,
+        log: log.content().to_vec(),
+        memory: memory.content().to_vec(),
+        output: seen.written,
+        table: seen.table,
+    })
 }
 
 /// Runs the leaf list.

@@ -78,26 +78,33 @@ pub fn model(random: &mut Random) -> Model {
 }
 
 fn sheets(random: &mut Random, spoil: u64) -> (Vec<u8>, Vec<u8>) {
+    let (from, to) = models(random, spoil);
+    (text(random, spoil, &from), text(random, spoil, &to))
+}
+
+/// Models for a source and a destination sheet, mostly with a path.
+pub fn models(random: &mut Random, spoil: u64) -> (Model, Model) {
     let model = model(random);
     let other = if random.percent(spoil) {
         generate::sheet(random, 60)
     } else {
         derive(random, &model)
     };
-    let mut text = |model: Model| {
-        let text = model.text();
-        match random.below(100) {
-            share if share >= spoil => text,
-            share if share % 4 == 0 => lines::sheet(random),
-            _ => damage(random, &text),
-        }
-    };
-    let (from, to) = (text(model), text(other));
     // Either may be the older one.
     if random.percent(50) {
-        (from, to)
+        (model, other)
     } else {
-        (to, from)
+        (other, model)
+    }
+}
+
+/// A model's text, faulty in so many of a hundred.
+pub fn text(random: &mut Random, spoil: u64, model: &Model) -> Vec<u8> {
+    let text = model.text();
+    match random.below(100) {
+        share if share >= spoil => text,
+        share if share % 4 == 0 => lines::sheet(random),
+        _ => damage(random, &text),
     }
 }
 
@@ -108,11 +115,6 @@ pub fn make(random: &mut Random, spoil: u64, from: Vec<u8>, to: Vec<u8>) -> Run 
     } else {
         random.below(2) as u32
     };
-    let words = if random.percent(spoil) {
-        *random.pick(&[0, 1, 4096, 8191])
-    } else {
-        8192 + *random.pick(&[0, 0, 0, 1, 7, 300])
-    };
     let mut run = Run {
         form: *random.pick(&FORMS),
         source_sheet: from,
@@ -121,10 +123,20 @@ pub fn make(random: &mut Random, spoil: u64, from: Vec<u8>, to: Vec<u8>) -> Run 
         handling,
         first: Vec::new(),
         second: Vec::new(),
-        table: random.words(words),
+        table: table(random, spoil),
     };
     fill(random, spoil, &mut run);
     run
+}
+
+/// A table, too short in so many of a hundred.
+pub fn table(random: &mut Random, spoil: u64) -> Vec<u32> {
+    let words = if random.percent(spoil) {
+        *random.pick(&[0, 1, 4096, 8191])
+    } else {
+        8192 + *random.pick(&[0, 0, 0, 1, 7, 300])
+    };
+    random.words(words)
 }
 
 /// Chooses the count and the buffers.
@@ -156,17 +168,22 @@ fn fill(random: &mut Random, spoil: u64, run: &mut Run) {
         length(random, spoil, count * longer),
         length(random, spoil, count * to),
     );
-    let behind = random.bytes(room.0);
-    run.first.truncate(room.0);
-    let kept = run.first.len();
-    run.first.extend_from_slice(&behind[kept..]);
+    resize(random, &mut run.first, room.0);
     run.second = random.bytes(room.1);
     if random.percent(spoil) {
         run.count = large_count(random, from);
     }
 }
 
-fn small_count(random: &mut Random, most: u64) -> u64 {
+/// Cuts bytes off, or puts random ones behind.
+pub fn resize(random: &mut Random, bytes: &mut Vec<u8>, length: usize) {
+    let behind = random.bytes(length);
+    bytes.truncate(length);
+    let kept = bytes.len();
+    bytes.extend_from_slice(&behind[kept..]);
+}
+
+pub fn small_count(random: &mut Random, most: u64) -> u64 {
     let count = match random.below(12) {
         0 => 0,
         1..=3 => 1,
@@ -177,7 +194,7 @@ fn small_count(random: &mut Random, most: u64) -> u64 {
 }
 
 /// Above 65,536, or at it without the room for it.
-fn large_count(random: &mut Random, size: u64) -> u64 {
+pub fn large_count(random: &mut Random, size: u64) -> u64 {
     let wraps = (u64::MAX / size).wrapping_add(2);
     let counts = [
         65_536,
@@ -197,7 +214,7 @@ fn large_count(random: &mut Random, size: u64) -> u64 {
 }
 
 /// The length of a buffer for which `needed` bytes are asked.
-fn length(random: &mut Random, spoil: u64, needed: u64) -> usize {
+pub fn length(random: &mut Random, spoil: u64, needed: u64) -> usize {
     let length = if random.percent(spoil) {
         match random.below(4) {
             0 => 0,

@@ -177,7 +177,7 @@ fn shift(random: &mut Random, model: &mut Model) {
 }
 
 /// Makes a type valid again after the types under it have changed.
-fn mend(random: &mut Random, model: &mut Model, own: usize) {
+pub fn mend(random: &mut Random, model: &mut Model, own: usize) {
     let mut line = model.types[own].clone();
     match &mut line {
         Line::Enum { base, values } => {

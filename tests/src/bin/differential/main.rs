@@ -9,6 +9,7 @@ mod damage;
 mod derive;
 mod events;
 mod generate;
+mod held;
 mod lent;
 mod limits;
 mod lines;
@@ -17,6 +18,10 @@ mod others;
 mod properties;
 mod random;
 mod records;
+mod report_events;
+mod report_laws;
+mod report_run;
+mod reports;
 mod run;
 mod sizes;
 mod tally;
@@ -26,7 +31,7 @@ use random::Random;
 use tally::Tally;
 
 const SEED: u64 = 20_260_101;
-const CASES: u64 = 60_000;
+const CASES: u64 = 75_000;
 
 #[derive(Default)]
 pub struct Options {
@@ -104,7 +109,7 @@ fn run_cases(options: &Options) -> bool {
 }
 
 fn run_case(random: &mut Random, tally: &mut Tally) -> Result<(), String> {
-    let choice = random.below(1000);
+    let choice = random.below(1250);
     let (kind, result) = match choice {
         0 => (
             "conversion of 65,536 records",
@@ -121,7 +126,22 @@ fn run_case(random: &mut Random, tally: &mut Tally) -> Result<(), String> {
         ),
         550..=799 => ("leaf list", others::list_case(random, tally)),
         800..=894 => ("setters", others::setter_case(random, tally)),
-        _ => ("properties", properties::case(random, tally)),
+        895..=999 => ("properties", properties::case(random, tally)),
+        1000 => (
+            "report of 65,536 records",
+            if random.percent(70) {
+                reports::long_case(random, tally)
+            } else {
+                report_laws::full_season(random, tally)
+            },
+        ),
+        1001..=1019 => ("report at the limits", reports::limit_case(random, tally)),
+        1020..=1119 => ("report", reports::case(random, tally, 3)),
+        1120..=1194 => (
+            "report with many refusals",
+            reports::case(random, tally, 25),
+        ),
+        _ => ("report's laws", report_laws::case(random, tally)),
     };
     tally.saw(&format!("case: {kind}"));
     result.map_err(|fault| format!("({kind}) {fault}"))

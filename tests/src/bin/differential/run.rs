@@ -3,7 +3,7 @@
 
 use crate::capi;
 use crate::random::Random;
-use independent::call::{self, After, Call};
+use independent::call::{self, After, Answer, Call};
 
 #[derive(Clone, Copy, Debug, PartialEq, Eq)]
 pub enum Form {
@@ -61,11 +61,15 @@ pub struct Seen {
     pub table: Vec<u32>,
 }
 
+/// An answer as its eight words.
+pub fn words(a: Answer) -> [u64; 8] {
+    [a.number, a.count, a.line, a.record, a.at, a.kind, 0, 0]
+}
+
 impl From<After> for Seen {
     fn from(after: After) -> Seen {
-        let a = after.answer;
         Seen {
-            answer: [a.number, a.count, a.line, a.record, a.at, a.kind, 0, 0],
+            answer: words(after.answer),
             written: after.written,
             table: after.table,
         }
@@ -110,21 +114,26 @@ const FIELDS: [&str; 8] = [
 
 /// In plain words, what the library left that was not expected.
 pub fn difference(seen: &Seen, expected: &Seen) -> Option<String> {
+    let mut told = answers_differ(&seen.answer, &expected.answer);
+    told.extend(first_difference("byte", &seen.written, &expected.written));
+    told.extend(first_difference("table word", &seen.table, &expected.table));
+    (!told.is_empty()).then(|| told.join("\n"))
+}
+
+pub fn answers_differ(seen: &[u64; 8], expected: &[u64; 8]) -> Vec<String> {
     let mut told = Vec::new();
     for (i, field) in FIELDS.iter().enumerate() {
-        let (got, wanted) = (seen.answer[i], expected.answer[i]);
+        let (got, wanted) = (seen[i], expected[i]);
         if got != wanted {
             told.push(format!(
                 "answer's {field}: library {got}, expected {wanted}"
             ));
         }
     }
-    told.extend(first_difference("byte", &seen.written, &expected.written));
-    told.extend(first_difference("table word", &seen.table, &expected.table));
-    (!told.is_empty()).then(|| told.join("\n"))
+    told
 }
 
-fn first_difference<T>(what: &str, seen: &[T], expected: &[T]) -> Option<String>
+pub fn first_difference<T>(what: &str, seen: &[T], expected: &[T]) -> Option<String>
 where
     T: PartialEq + std::fmt::UpperHex,
 {
@@ -179,7 +188,7 @@ pub fn show(sheet: &[u8]) -> String {
     lines.join("\n")
 }
 
-fn hex(bytes: &[u8]) -> String {
+pub fn hex(bytes: &[u8]) -> String {
     let shown: Vec<String> = bytes.iter().take(96).map(|b| format!("{b:02X}")).collect();
     let more = if bytes.len() > 96 { " ..." } else { "" };
     format!("{} bytes: {}{more}", bytes.len(), shown.join(" "))

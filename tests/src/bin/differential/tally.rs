@@ -8,7 +8,7 @@ use std::collections::BTreeMap;
 pub struct Tally(BTreeMap<String, u64>);
 
 /// Beside the answers, what a whole run must have met.
-const NEEDED: [&str; 40] = [
+const NEEDED: [&str; 92] = [
     "case: conversion",
     "case: conversion with many refusals",
     "case: conversion at the limits",
@@ -49,6 +49,58 @@ const NEEDED: [&str; 40] = [
     "property: free bytes do not show under STOP",
     "property: a changed number shows",
     "property: data bytes do not show in a refusal",
+    "case: report",
+    "case: report with many refusals",
+    "case: report at the limits",
+    "case: report of 65,536 records",
+    "case: report's laws",
+    "report: done of no record",
+    "report: done of 65,536 records",
+    "report: an exception",
+    "report: up to 1,048,576 records",
+    "report: no int leaf",
+    "report: more than 1,000 int leaves",
+    "report: an unmatched int leaf",
+    "report: a wide leaf that is no int",
+    "report: no sample",
+    "report: a held lowest without a sample",
+    "report: 2^52 held",
+    "report: words behind the report's",
+    "report: just the words",
+    "report: a memory short by one word",
+    "report: just the room for the output",
+    "report: an output short by one byte",
+    "report CHANNEL: one bit too wide",
+    "report FULL: one record too many",
+    "report FULL: negative records",
+    "report FULL: negative exceptions",
+    "report FULL: negative samples",
+    "report FULL: 2^52 + 1",
+    "report FULL: -2^52 - 1",
+    "report FULL: -2^63",
+    "report FULL: 2^63 - 1",
+    "report, 2 and 3 at once",
+    "report, 3 and 4 at once",
+    "report, 3 and 10 at once",
+    "report, 5 and 10 at once",
+    "report, 6 and 10 at once",
+    "report, 7 and 10 at once",
+    "report, 10 and 11 at once",
+    "report, 5 and 6 at once",
+    "report, 5 and 7 at once",
+    "report, 5 and 11 at once",
+    "report, 6 and 7 at once",
+    "report, 6 and 11 at once",
+    "report, 7 and 11 at once",
+    "report, 11 and a short output at once",
+    "law: a cut does not show",
+    "law: a cut within the log does not show",
+    "law: a season does not turn on its cuts",
+    "law: a season of three logs or more",
+    "law: 1,048,576 records from zeros",
+    "law: free bytes do not show",
+    "law: over one background free bytes do not show in the log",
+    "law: data bytes do not show in a refusal of the report",
 ];
 
 impl Tally {
@@ -94,6 +146,7 @@ fn answers() -> Vec<String> {
             _ => add(form.name(), &[0, 2, 3, 4, 5, 6, 7]),
         }
     }
+    add("report", &[0, 2, 3, 4, 5, 6, 7, 10, 11]);
     add("leaf list", &[0, 2, 3, 7]);
     add("record size", &[0, 2, 3]);
     for setter in ["size", "order", "precision", "offset", "pads", "sign"] {
