@@ -53,7 +53,7 @@ enum {
     YIRVAGUL_SOURCE = 3,
     /* The destination sheet, or the reader's, is faulty at `line`, likewise. */
     YIRVAGUL_DESTINATION = 4,
-    /* The source type has no path to the destination type. Give members of one name the same class, and arrays the same number of elements. */
+    /* The source type has no path to the destination type. Give members of one name the same class, and arrays the same dimensions, as many and in the same order. */
     YIRVAGUL_PATH = 5,
     /* count is above 65,536. Convert in parts. */
     YIRVAGUL_COUNT = 6,

@@ -39,8 +39,8 @@ pub fn has_path(source: &Datatype, destination: &Datatype) -> bool {
             },
             Datatype::Array { base, dimensions },
         ) => {
-            lengths.iter().product::<u64>() == dimensions.iter().product::<u64>()
-                && has_path(from, base)
+            // Document 02, 2026-02: "the rank and every dimension equal, in order"
+            lengths == dimensions && has_path(from, base)
         }
         (Datatype::Comp { members: from, .. }, Datatype::Comp { members, .. }) => {
             members.iter().all(|member| match find(from, &member.name) {

@@ -68,7 +68,7 @@ WORDS = {
     Number.DESTINATION: "DESTINATION (4): line 2 of the destination sheet is faulty, `value\\ta\\t1`: "
     "value follows an enum or another value of it, and the type before it is an int",
     Number.PATH: "PATH (5): no path from the source type to the destination type at `boost`: "
-    "the source has an array of 3, the destination one of 2: give both as many elements",
+    "the source has an array of 3, the destination one of 2: give both the same dimensions",
     Number.COUNT: "COUNT (6): 65,537 records, more than 65,536, in one call: convert them with convert_log, or in parts",
     Number.ROOM: "ROOM (7): the source is too short: it holds 16 bytes and needs 24; "
     "the destination is too short: it holds 14 bytes and needs 21: lend longer ones",
@@ -155,7 +155,7 @@ class Messages(unittest.TestCase):
             (
                 Refusal(5),
                 "PATH (5): no path from the source type to the destination type: "
-                "give members of one name the same class, and arrays as many elements",
+                "give members of one name the same class, and arrays the same dimensions",
             ),
             (Refusal(6), "COUNT (6): more than 65,536 records in one call: convert them with convert_log, or in parts"),
             (Refusal(7), "ROOM (7): a buffer is too short for that many records, or for the list: lend a longer one"),

@@ -288,8 +288,18 @@ class Names(unittest.TestCase):
         source, destination = CUSTOMER.replace("array\t0\t3", "array\t0\t4").replace("comp\t7", "comp\t9"), RIG
         self.assertEqual(
             found(source, destination),
-            ("boost", "the source has an array of 4, the destination one of 3: give both as many elements"),
+            ("boost", "the source has an array of 4, the destination one of 3: give both the same dimensions"),
         )
+        map_of = "int\t1\tLE\t0\t8\tzero\tzero\tunsigned\narray\t0\t{}\ncomp\t12\nmember\tmap\t0\t1\n".format
+        self.assertEqual(
+            found(map_of("2\t6"), map_of("3\t4")),
+            ("map", "the source has an array of 2 by 6, the destination one of 3 by 4: give both the same dimensions"),
+        )
+        self.assertEqual(
+            found(map_of("12"), map_of("12\t1")),
+            ("map", "the source has an array of 12, the destination one of 12 by 1: give both the same dimensions"),
+        )
+        self.assertIsNone(found(map_of("2\t6"), map_of("2\t6")))
         runs = "comp\t1\nmember\ta\t0\t0\narray\t1\t2\ncomp\t2\nmember\truns\t0\t2\n"
         self.assertEqual(
             found(BYTE + runs, BITS + runs),

@@ -120,7 +120,7 @@ def _faulty(refused: Refusal) -> str:
 
 
 def _path(refused: Refusal) -> str:
-    rule = refused.rule or "give members of one name the same class, and arrays as many elements"
+    rule = refused.rule or "give members of one name the same class, and arrays the same dimensions"
     if refused.member is None:
         return f"no path from the source type to the destination type: {rule}"
     return f"no path from the source type to the destination type at {quoted(refused.member)}: {rule}"

@@ -448,13 +448,10 @@ def no_path(source: Type, destination: Type, way: str = "") -> Optional[NoPath]:
                         return found
         return None
     if isinstance(source, Array) and isinstance(destination, Array):
-        elements = [math.prod(array.dimensions) for array in (source, destination)]
-        if elements[0] == elements[1]:
+        if source.dimensions == destination.dimensions:
             return no_path(source.base, destination.base, f"{way}[]")
-        return NoPath(
-            way or None,
-            f"the source has an array of {elements[0]}, the destination one of {elements[1]}: give both as many elements",
-        )
+        ours, theirs = (" by ".join(map(str, array.dimensions)) for array in (source, destination))
+        return NoPath(way or None, f"the source has an array of {ours}, the destination one of {theirs}: give both the same dimensions")
     ours, theirs = class_name(source), class_name(destination)
     if ours == theirs:
         return None

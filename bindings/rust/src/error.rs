@@ -301,7 +301,7 @@ impl fmt::Display for Error {
             Error::Source { line, text, rule, .. } => faulty(f, "source sheet", *line, text, rule),
             Error::Destination { line, text, rule } => faulty(f, "destination sheet", *line, text, rule),
             Error::Path { member: Some(member), why: Some(why) } => write!(f, "no path from the source type to the destination type: {} {why}", named(member)),
-            Error::Path { .. } => f.write_str("no path from the source type to the destination type: give members of one name the same class, and arrays as many elements"),
+            Error::Path { .. } => f.write_str("no path from the source type to the destination type: give members of one name the same class, and arrays the same dimensions"),
             Error::Count => f.write_str("more than 65,536 records in one call: convert them in parts, as convert_log does"),
             Error::Room { short: Some(Short { buffer, holds, needs }) } => write!(f, "the {buffer} is too short: it holds {holds} bytes and needs {needs}: lend a longer one"),
             Error::Room { .. } => f.write_str("a buffer is too short for that many records, or for the list: lend a longer one"),

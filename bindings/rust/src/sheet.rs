@@ -602,9 +602,12 @@ fn descend(source: &Type, destination: &Type, way: &mut String) -> Option<String
             },
             Class::Array { base, dimensions },
         ) => {
-            let (had, has) = (count(lengths), count(dimensions));
-            if had != has {
-                return Some(format!("has {had} elements in the source and {has} in the destination: give both as many"));
+            if lengths != dimensions {
+                return Some(format!(
+                    "is an array of {} in the source and of {} in the destination: give both the same dimensions",
+                    by(lengths),
+                    by(dimensions)
+                ));
             }
             push_element(way, dimensions, 0);
             let why = descend(from, base, way);
@@ -671,6 +674,12 @@ fn find_wide(of: &Type, at: &mut u32) -> Option<u32> {
             })
         }
     }
+}
+
+/// Dimensions as a person says them.
+fn by(dimensions: &[u32]) -> String {
+    let words: Vec<String> = dimensions.iter().map(u32::to_string).collect();
+    words.join(" by ")
 }
 
 /// An array has at most 4,096 bytes, and so as many elements.

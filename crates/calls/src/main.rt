@@ -108,7 +108,7 @@ fn case_6() {
     let mut table = [7u32; 8192];
     let a = convert_copying(
         b"int\t1\tLE\t0\t8\tzero\tzero\tunsigned\narray\t0\t2\t3\n",
-        b"int\t2\tBE\t0\t16\tzero\tzero\tunsigned\narray\t0\t3\t2\n",
+        b"int\t2\tBE\t0\t16\tzero\tzero\tunsigned\narray\t0\t2\t3\n",
         1,
         1,
         b"\x01\x02\x03\x04\x05\x06",

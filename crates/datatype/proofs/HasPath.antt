@@ -4,11 +4,9 @@ use mathlib.Core.Logic.{_↔_, ⊎-elim}
 use mathlib.Core.Bool.{true, false≢true}
 use mathlib.Core.List.{List}
 use Prim.Native.Nat.{ℕ}
-use lib.Dec.{eqb}
-use borrow.Author.Tests.{eqb-true, eq-eqb}
 use Rattle.layout.specs.declared.Class.{Class}
 use Rattle.layout.specs.declared.Class.the-variants.{Int, Bits}
-use Rattle.datatype.specs.Datatype.{Leaf, Datatype, Members, elements}
+use Rattle.datatype.specs.Datatype.{Leaf, Datatype, Members}
 use Rattle.datatype.specs.Datatype.Leaf.{atomic, enumeration}
 use Rattle.datatype.specs.Datatype.Datatype.{leaf, compound, array}
 use Rattle.datatype.specs.Datatype.Members.{empty, member}
@@ -17,7 +15,7 @@ use Rattle.datatype.specs.Paths.Lookup.{missing, found}
 use Rattle.datatype.specs.WellFormed.{WellFormed, WellFormedIn}
 use Rattle.datatype.specs.HasPath.{HasPath}
 use Rattle.datatype.specs.HasPath.HasPath.{same-class, enums, arrays, compounds}
-use Rattle.datatype.proofs.Tests.{and-true, both}
+use Rattle.datatype.proofs.Tests.{and-true, both, same→eq, same-refl}
 use Rattle.datatype.proofs.Ways.{not-found, found-first, found-later, found-cases, same-type}
 
 class-same : (c d : Class) → sameClass c d ≡ true → c ≡ d
@@ -50,7 +48,7 @@ compound-path (array z es T) w ms e h = absurd (false≢true e)
 array-path : (S : Datatype) (w : ℕ) (ds : List ℕ) (D : Datatype) → isArrayLike S ds ≡ true → HasPath (baseOf S) D → HasPath S (array w ds D)
 array-path (leaf x) w ds D e h = absurd (false≢true e)
 array-path (compound z ss) w ds D e h = absurd (false≢true e)
-array-path (array z es T) w ds D e h = arrays (eqb-true (elements es) (elements ds) e) h
+array-path (array z es T) w ds D e h = arrays (same→eq es ds e) h
 
 mutual
   unfolding memberNamed hasPath
@@ -83,7 +81,7 @@ said-compound : {S : Datatype} {w : ℕ} {ms : Members} → HasPath S (compound 
 said-compound (compounds h) = (refl, h)
 
 said-array : {S D : Datatype} {w : ℕ} {ds : List ℕ} → HasPath S (array w ds D) → (isArrayLike S ds ≡ true) × HasPath (baseOf S) D
-said-array (arrays {es = es} {ds = ds} e h) = (eq-eqb (elements es) (elements ds) e, h)
+said-array (arrays {es = es} {ds = ds} e h) = (rw e (same-refl ds), h)
 
 -- what is asked of a member that the source may have
 on-found : (x : List ℕ) (X : Datatype) (ss : Members) → ((p : ℕ) (S : Datatype) → memberNamed x ss ≡ found p S → hasPath S X ≡ true)

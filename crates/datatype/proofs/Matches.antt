@@ -8,11 +8,9 @@ use Prim.Native.Nat.{ℕ, _+_, _≤_, _<_}
 use native.Mathlib.Nat.{lt-of-not-le, mul-le-mul}
 use native.Mathlib.Decide.{decLe}
 use native.Mathlib.Omega.{arith}
-use lib.Dec.{eqb}
-use borrow.Author.Tests.{eqb-true, eq-eqb}
 use Rattle.layout.specs.declared.Class.{Class}
 use Rattle.layout.specs.declared.Class.the-variants.{Int, Bits}
-use Rattle.datatype.specs.Datatype.{Leaf, leafSize, Datatype, Members, size, elements}
+use Rattle.datatype.specs.Datatype.{Leaf, leafSize, Datatype, Members, size, elements, same}
 use Rattle.datatype.specs.Datatype.Leaf.{atomic, enumeration}
 use Rattle.datatype.specs.Datatype.Datatype.{leaf, compound, array}
 use Rattle.datatype.specs.Datatype.Members.{empty, member}
@@ -22,7 +20,7 @@ use Rattle.datatype.specs.Paths.Lookup.{missing, found}
 use Rattle.datatype.specs.Matches.{matchAt}
 use Rattle.datatype.specs.Matches.Match.{matched}
 use Rattle.datatype.specs.WellFormed.{EachSome, WellFormed, WellFormedIn}
-use Rattle.datatype.proofs.Tests.{nothing, and-true, both}
+use Rattle.datatype.proofs.Tests.{nothing, and-true, both, same→eq, same-refl}
 use Rattle.datatype.proofs.Ways.{Way, flip, not-found, found-first, found-later, found-cases, same-type, formed-found, valid, leaf-pos, way-range, way-formed, way-match, way-leaf, way-alone, match-way, leaf-way}
 use Rattle.datatype.proofs.Ways.Way.{here, inside, element}
 
@@ -86,10 +84,8 @@ mutual
   back (array w ds T) (leaf x) f g e = absurd (false≢true e)
   back (array w ds T) (compound z ss) f g e = absurd (false≢true e)
   back (array w ds T) (array z es S) f g e =
-      let m : ℕ = elements es in
-      let n : ℕ = elements ds in
-      let h : (eqb m n ≡ true) × (hasPath S T ≡ true) = and-true (eqb m n) (hasPath S T) e in
-      both (eqb n m) (hasPath T S) (eq-eqb n m (sym (eqb-true m n (h .0)))) (back T S (f .1) (g .1) (h .1))
+      let h : (same es ds ≡ true) × (hasPath S T ≡ true) = and-true (same es ds) (hasPath S T) e in
+      both (same ds es) (hasPath T S) (rw (same→eq es ds (h .0)) (same-refl ds)) (back T S (f .1) (g .1) (h .1))
 
   backs : (ms : Members) (w : ℕ) → WellFormedIn w ms → (n : List ℕ) (o : ℕ) (T : Datatype) → memberNamed n ms ≡ found o T → (S : Datatype) → WellFormed S
       → hasPath S T ≡ true → hasPath T S ≡ true
@@ -101,7 +97,7 @@ pub way-path : {S D : Datatype} {a b : ℕ} {x y : Leaf} → Way S D a b x y →
 unfolding hasPath
 way-path here e = e
 way-path (inside {ss = ss} {ms = ms} n i j t) e = way-path t (paths-found ss ms e n i j)
-way-path (element {es = es} {ds = ds} {S = S} {T = T} k q h t) e = way-path t (and-true (eqb (elements es) (elements ds)) (hasPath S T) e .1)
+way-path (element {es = es} {ds = ds} {S = S} {T = T} k q h t) e = way-path t (and-true (same es ds) (hasPath S T) e .1)
 
 -- ---- the laws
 

@@ -28,7 +28,7 @@ pub data Way : Datatype → Datatype → ℕ → ℕ → Leaf → Leaf → Type 
   inside : {z w p o a b : ℕ} {ss ms : Members} {S T : Datatype} {x y : Leaf} (n : List ℕ)
       → memberNamed n ss ≡ found p S → memberNamed n ms ≡ found o T → Way S T a b x y → Way (compound z ss) (compound w ms) (p + a) (o + b) x y
   element : {z w a b : ℕ} {es ds : List ℕ} {S T : Datatype} {x y : Leaf} (k : ℕ)
-      → elements es ≡ elements ds → k < elements ds → Way S T a b x y → Way (array z es S) (array w ds T) (k * size S + a) (k * size T + b) x y
+      → es ≡ ds → k < elements ds → Way S T a b x y → Way (array z es S) (array w ds T) (k * size S + a) (k * size T + b) x y
 
 pub flip : {S D : Datatype} {a b : ℕ} {x y : Leaf} → Way S D a b x y → Way D S b a y x
 flip here = here
@@ -203,15 +203,15 @@ array-way : (T S : Datatype) (z w : ℕ) (es ds : List ℕ) {a b : ℕ} {x y : L
     → ((c d : ℕ) → matchAt S T d ≡ matched c x y → Way S T c d x y)
     → matchAt (array z es S) (array w ds T) b ≡ matched a x y → Way (array z es S) (array w ds T) a b x y
 unfolding matchAt
-array-way T S z w es ds {a} {b} {x} {y} sized down e = go (eqb (elements es) (elements ds)) (ltb b w) refl refl e
+array-way T S z w es ds {a} {b} {x} {y} sized down e = go (same es ds) (ltb b w) refl refl e
   where
-    go : (s t : Bool) → eqb (elements es) (elements ds) ≡ s → ltb b w ≡ t
+    go : (s t : Bool) → same es ds ≡ s → ltb b w ≡ t
         → cond (s && t) (further (b / size T * size S) (matchAt S T (b % size T))) unmatched ≡ matched a x y → Way (array z es S) (array w ds T) a b x y
     go true true p q g =
         let r : (c : ℕ) × (matchAt S T (b % size T) ≡ matched c x y) × (b / size T * size S + c ≡ a) =
         further-back (b / size T * size S) (matchAt S T (b % size T)) g in
         placed (r .2) (div-add-mod' b (size T))
-        (element (b / size T) (eqb-true (elements es) (elements ds) p) (element-of w b ds T sized q) (down (r .0) (b % size T) (r .1)))
+        (element (b / size T) (same→eq es ds p) (element-of w b ds T sized q) (down (r .0) (b % size T) (r .1)))
     go true false p q g = no-match g
     go false t p q g = no-match g
 
@@ -250,7 +250,7 @@ way-match (element {w = w} {a = a} {b = b} {es = es} {ds = ds} {S = S} {T = T} k
     let l : b < size T = way-starts t (g .1) in
     rw (
       e,
-      eq-eqb (elements ds) (elements ds) refl,
+      same-refl ds,
       element-inside w k b ds T (g .0) h l,
       mul-add-div-right {m = size T} (omega arith) k b,
       mul-add-mod-self-right k (size T) b,

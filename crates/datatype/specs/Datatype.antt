@@ -1,5 +1,5 @@
 -- Document 01, "Layout sheets": datatypes as trees. A line that names a type by its number takes that type's tree over.
-use mathlib.Core.Bool.{cond}
+use mathlib.Core.Bool.{Bool, cond}
 use mathlib.Core.List.{List, [], _∷_}
 use Prim.Native.Nat.{ℕ, _*_}
 use lib.Dec.{eqb}
@@ -42,10 +42,14 @@ size (leaf x) = leafSize x
 size (compound z ms) = z
 size (array z ds T) = z
 
--- "total element counts": the product of an array's dimensions
+-- how many elements an array has: the product of its dimensions
 abbrev pub elements : List ℕ → ℕ
 elements [] = 1
 elements (d ∷ ds) = d * elements ds
+
+-- document 02, 2026-02: "the rank and every dimension equal, in order"
+abbrev pub sameDimensions : List ℕ → List ℕ → Bool
+sameDimensions es ds = same es ds
 
 -- the dimensions of an array in four numbers, 0 for none: those up to the first 0
 abbrev pub upToZero : List ℕ → List ℕ

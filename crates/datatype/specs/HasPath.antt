@@ -3,7 +3,7 @@ use mathlib.Core.Path.{_≡_}
 use mathlib.Core.List.{List}
 use Prim.Native.Nat.{ℕ}
 use Rattle.layout.specs.declared.Layout.{Layout}
-use Rattle.datatype.specs.Datatype.{Symbol, Datatype, Members, elements}
+use Rattle.datatype.specs.Datatype.{Symbol, Datatype, Members}
 use Rattle.datatype.specs.Datatype.Leaf.{atomic, enumeration}
 use Rattle.datatype.specs.Datatype.Datatype.{leaf, compound, array}
 use Rattle.datatype.specs.Paths.{memberNamed}
@@ -15,8 +15,8 @@ pub data HasPath : Datatype → Datatype → Type 0 where
   same-class : {l k : Layout} → l .class ≡ k .class → HasPath (leaf (atomic l)) (leaf (atomic k))
   -- "enum to enum"
   enums : {l k : Layout} {ss ts : List Symbol} → HasPath (leaf (enumeration l ss)) (leaf (enumeration k ts))
-  -- "from array to array if the total element counts are equal and the bases have a path"
-  arrays : {z w : ℕ} {es ds : List ℕ} {S D : Datatype} → elements es ≡ elements ds → HasPath S D → HasPath (array z es S) (array w ds D)
+  -- "from array to array if .. the bases have a path"; document 02, 2026-02: "the rank and every dimension equal, in order"
+  arrays : {z w : ℕ} {es ds : List ℕ} {S D : Datatype} → es ≡ ds → HasPath S D → HasPath (array z es S) (array w ds D)
   -- "from compound to compound if each destination member whose name is in the source has a path from it"
   compounds : {z w : ℕ} {ss ms : Members}
       → ((name : List ℕ) (p o : ℕ) (S D : Datatype) → memberNamed name ms ≡ found o D → memberNamed name ss ≡ found p S → HasPath S D)

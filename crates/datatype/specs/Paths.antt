@@ -2,10 +2,9 @@
 use mathlib.Core.Bool.{Bool, true, false, cond, _&&_}
 use mathlib.Core.List.{List}
 use Prim.Native.Nat.{ℕ}
-use lib.Dec.{eqb}
 use Rattle.layout.specs.declared.Class.{Class}
 use Rattle.layout.specs.declared.Class.the-variants.{Int, Bits}
-use Rattle.datatype.specs.Datatype.{Leaf, Datatype, Members, elements, same}
+use Rattle.datatype.specs.Datatype.{Leaf, Datatype, Members, same, sameDimensions}
 use Rattle.datatype.specs.Datatype.Leaf.{atomic, enumeration}
 use Rattle.datatype.specs.Datatype.Datatype.{leaf, compound, array}
 use Rattle.datatype.specs.Datatype.Members.{empty, member}
@@ -53,11 +52,11 @@ membersOf (leaf x) = empty
 membersOf (compound z ms) = ms
 membersOf (array z ds T) = empty
 
--- "from array to array if the total element counts are equal"
+-- "from array to array if", by document 02, 2026-02, they have the same dimensions
 abbrev pub isArrayLike : Datatype → List ℕ → Bool
 isArrayLike (leaf x) ds = false
 isArrayLike (compound z ms) ds = false
-isArrayLike (array z es T) ds = eqb (elements es) (elements ds)
+isArrayLike (array z es T) ds = sameDimensions es ds
 
 abbrev pub baseOf : Datatype → Datatype
 baseOf (leaf x) = leaf x

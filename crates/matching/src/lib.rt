@@ -10,10 +10,10 @@ ghost use Rattle.paths.specs.Leaf.{MatchFound};
 ghost use Rattle.paths.specs.Steps.{kindAt, covers, Leads, LeadsIn};
 use paths::Pair;
 use paths::Walk;
+use paths::dimensions::same_dimensions;
 use paths::numbers::minus;
 use paths::numbers::quotient;
 use paths::numbers::remainder;
-use paths::types::count_at;
 use paths::types::gap_end;
 use paths::types::kind_at;
 use paths::types::row_end;
@@ -108,7 +108,7 @@ fn match_array(
     ensures { λ r. ⌜ ((ts td : List ℕ) → Leads (now («source_half» .entry)) ts «source_type» (now («destination_half» .entry)) td «destination_type» «destination_byte» r) ⌝ }
 {
     let z = type_word(destination_half, destination_type, SIZE);
-    if count_at(source_half, source_type) != count_at(destination_half, destination_type) {
+    if !same_dimensions(source_half, source_type, destination_half, destination_type) {
         return Walk::Off(z);
     }
     let l = type_word(destination_half, destination_type, BASE);

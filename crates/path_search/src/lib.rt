@@ -8,7 +8,7 @@ ghost use Rattle.table.specs.Table.{decode, typeAt};
 ghost use Rattle.paths.specs.Steps.{Turns, Inside};
 use paths::Inner;
 use paths::Turn;
-use paths::types::count_at;
+use paths::dimensions::same_dimensions;
 use paths::types::kind_at;
 use paths::types::row_of_name;
 use table::ARRAY;
@@ -41,7 +41,7 @@ fn path_turn(
     if to != ARRAY {
         return Turn::Answer(true);
     }
-    if count_at(source_half, source_type) != count_at(destination_half, destination_type) {
+    if !same_dimensions(source_half, source_type, destination_half, destination_type) {
         return Turn::Answer(false);
     }
     Turn::Bases(

@@ -2,8 +2,8 @@
 use mathlib.Core.Path.{_≡_, refl, ap, _∙_}
 use mathlib.Core.Bool.{Bool, true, false, cond}
 use mathlib.Core.List.{List}
-use Prim.Native.Nat.{ℕ, zero, suc, _-_, _/_, _≤_, _<_}
-use native.Mathlib.Nat.{not-suc-le-zero, div-eq-of-eq-mul-left}
+use Prim.Native.Nat.{ℕ, zero, suc, _-_, _≤_, _<_}
+use native.Mathlib.Nat.{not-suc-le-zero}
 use native.Mathlib.Numerals.{sub-one}
 use native.Mathlib.Omega.{arith}
 use lib.Dec.{eqb, ltb}
@@ -17,10 +17,9 @@ use Rattle.datatype.specs.WellFormed.{CompoundSize, ArraySize, WellFormed, Well
 use Rattle.datatype.proofs.Matches.{size-some}
 use Rattle.table.specs.Table.{typeWord, classWord, sizeWord, baseWord, firstWord, rowsWord, layoutAt, symbolsAt, dimensionsAt, node, decode}
 use Rattle.table.specs.Records.{classCode}
-use Rattle.table.specs.Words.{Reads}
 use Rattle.table.proofs.Made.{node-array, node-compound, node-size}
 use Rattle.paths.specs.Leaf.{leafOfType}
-use Rattle.paths.specs.Steps.{Sized, Whole, kindOf, kindAt, Counts, membersOfType}
+use Rattle.paths.specs.Steps.{Sized, Whole, kindOf, kindAt, membersOfType}
 
 -- ---- kinds
 
@@ -132,7 +131,3 @@ module _ (D : ℕ → Datatype) (w t : List ℕ) (i : ℕ) (whole : Whole D w t 
 
   pub element-some : kindAt w i ≡ 4 → 1 ≤ sizeWord w (baseWord w i)
   element-some e = rw (whole .sized (baseWord w i)) at (size-some (D (baseWord w i)) (formed-array e .1))
-
-pub counted : (w : List ℕ) (i : ℕ) {z k y r : ℕ} → Reads (sizeWord w i) z → Reads (baseWord w i) k → Reads (sizeWord w k) y → r ≡ z / y → Counts w i r
-counted w i hz hk hy e D t whole kind =
-    e ∙ rw (hz .is, hy .is, hk .is) (div-eq-of-eq-mul-left (element-some D w t i whole kind) (formed-array D w t i whole kind .0 .product))

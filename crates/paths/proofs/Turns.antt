@@ -1,24 +1,23 @@
 -- How the question for a path follows from the words of two types, level by level. Assumes nothing.
 use mathlib.Core.Path.{_≡_, refl, sym, ap, _∙_}
-use mathlib.Core.Bool.{Bool, true, false, _&&_}
+use mathlib.Core.Bool.{Bool, true, false, not, _&&_}
 use mathlib.Core.List.{List}
 use Prim.Native.Nat.{ℕ, zero, suc, _+_, _-_, _≤_, _<_}
 use native.Mathlib.Nat.{not-suc-le-zero, pos-of-ne-zero}
 use native.Mathlib.Numerals.{sub-one}
 use native.Mathlib.Omega.{arith}
 use borrow.Author.Needs.{needs}
-use borrow.Author.Tests.{ne-eqb, eq-eqb}
-use lib.Dec.{eqb}
 use Rattle.layout.specs.declared.Class.{Class}
 use Rattle.layout.specs.declared.Class.the-variants.{Int, Bits}
-use Rattle.datatype.specs.Datatype.{Leaf, Datatype, Members}
+use Rattle.layout.proofs.Edits.{fails, holds}
+use Rattle.datatype.specs.Datatype.{Leaf, Datatype, Members, same as sameDimensions}
 use Rattle.datatype.specs.Datatype.Leaf.{atomic, enumeration}
 use Rattle.datatype.specs.Datatype.Datatype.{leaf, compound, array}
 use Rattle.datatype.specs.Paths.{sameClass, leafPath, Lookup, onFound, hasPath, pathsTo}
 use Rattle.datatype.specs.WellFormed.{WellFormed, WellFormedIn}
 use Rattle.table.specs.declared.Found.{Found}
 use Rattle.table.specs.declared.Found.the-variants.{At, Missing}
-use Rattle.table.specs.Table.{sizeWord, baseWord, firstWord, rowsWord, memberTypeWord, nameAt, membersAt, node, decode}
+use Rattle.table.specs.Table.{sizeWord, baseWord, firstWord, rowsWord, memberTypeWord, nameAt, membersAt, dimensionsAt, node, decode}
 use Rattle.table.specs.Records.{classCode}
 use Rattle.table.specs.Words.{Reads}
 use Rattle.table.specs.Rows.{rowNamed, memberFound}
@@ -27,7 +26,7 @@ use Rattle.paths.specs.declared.Turn.{Turn}
 use Rattle.paths.specs.declared.Turn.the-variants.{Answer, Bases, Lists}
 use Rattle.paths.specs.declared.Inner.{Inner}
 use Rattle.paths.specs.declared.Inner.the-variants.{Both, Neither}
-use Rattle.paths.specs.Steps.{Whole, kindAt, Counts, membersOfType, Turned, Turns, pathNamed, innerAfter, Entered, Inside}
+use Rattle.paths.specs.Steps.{Whole, kindAt, membersOfType, Turned, Turns, pathNamed, innerAfter, Entered, Inside}
 use Rattle.paths.proofs.Shapes.{leafKind, treeKind, tree-kind, compound-node, array-node, decode-step, whole, formed-compound, formed-array}
 use Rattle.paths.proofs.Rows.{named-formed, row-formed}
 
@@ -111,29 +110,29 @@ module _ (ws : List ℕ) (s : ℕ) (wd : List ℕ) (d : ℕ) {from to : ℕ} (hs
           onward = tt;
         }
 
-    module _ (h : to ≡ 4) {m n : ℕ} (hm : Counts ws s m) (hn : Counts wd d n) where
+    module _ (h : to ≡ 4) {r : Bool} (alike : r ≡ sameDimensions (dimensionsAt ws s) (dimensionsAt wd d)) where
       arrays : (ts td : List ℕ) (S D : ℕ → Datatype) → Whole S ws ts s → Whole D wd td d
-          → hasPath (node S ws ts s) (node D wd td d) ≡ eqb m n && hasPath (S (baseWord ws s)) (D (baseWord wd d))
+          → hasPath (node S ws ts s) (node D wd td d) ≡ r && hasPath (S (baseWord ws s)) (D (baseWord wd d))
       unfolding hasPath
       arrays ts td S D fs fd =
           let ks : kindAt ws s ≡ 4 = sym hs ∙ sym same ∙ h in
           let kd : kindAt wd d ≡ 4 = sym hd ∙ h in
-          rw (array-node S ws ts s ks, array-node D wd td d kd, hm S ts fs ks, hn D td fd kd) refl
+          rw (array-node S ws ts s ks, array-node D wd td d kd, alike) refl
 
-      pub turn-counts : (m ≡ n → ⊥) → (ts td : List ℕ) → Turns ws ts s wd td d (Answer false)
-      turn-counts e ts td S D fs fd = record { is = arrays ts td S D fs fd ∙ rw (ne-eqb m n e) refl; onward = tt }
+      pub turn-others : not r ≡ true → (ts td : List ℕ) → Turns ws ts s wd td d (Answer false)
+      turn-others e ts td S D fs fd = record { is = arrays ts td S D fs fd ∙ rw (fails {t = r} refl e) refl; onward = tt }
 
-      pub turn-bases : {k l : ℕ} → m ≡ n → Reads (baseWord ws s) k → Reads (baseWord wd d) l → (ts td : List ℕ) → Turns ws ts s wd td d (Bases k l)
+      pub turn-bases : {k l : ℕ} → not r ≡ false → Reads (baseWord ws s) k → Reads (baseWord wd d) l → (ts td : List ℕ) → Turns ws ts s wd td d (Bases k l)
       turn-bases e hk hl ts td S D fs fd =
           record {
-            is = arrays ts td S D fs fd ∙ rw (eq-eqb m n e, hk .is, hl .is) refl;
+            is = arrays ts td S D fs fd ∙ rw (holds {t = r} refl e, hk .is, hl .is) refl;
             onward = (
               rw (hk .is) (formed-array S ws ts s fs (sym hs ∙ sym same ∙ h) .1),
               rw (hl .is) (formed-array D wd td d fd (sym hd ∙ h) .1),
             );
           }
 
-pub ruleset turn-laws = (needs, turn-differ, turn-lists, turn-leaves, turn-counts, turn-bases)
+pub ruleset turn-laws = (needs, turn-differ, turn-lists, turn-leaves, turn-others, turn-bases)
 
 -- ---- into a member
 

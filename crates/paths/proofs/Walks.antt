@@ -1,6 +1,6 @@
 -- How the match of a destination leaf follows from the words of two types, level by level. Assumes nothing.
 use mathlib.Core.Path.{_≡_, refl, sym, ap, _∙_}
-use mathlib.Core.Bool.{Bool, true, false, cond, _&&_}
+use mathlib.Core.Bool.{Bool, true, false, not, cond, _&&_}
 use mathlib.Core.List.{List}
 use Prim.Native.Nat.{ℕ, zero, suc, _+_, _-_, _*_, _/_, _%_, _≤_, _<_}
 use native.Mathlib.Nat.{not-suc-le-zero, zero-add, add-zero, add-assoc, suc-mul, mul-le-mul-right, le-of-lt, le-trans, div-lt-iff-lt-mul, div-add-mod', mul-add-div-right, mul-add-mod-self-right, div-eq-of-lt, mod-eq-of-lt, mod-lt, div-le-self, lt-of-le-of-lt, mul-le-mul, le-pred-of-lt}
@@ -9,14 +9,15 @@ use lib.Dec.{eqb, ltb, lit<}
 use mir.Syntax.{w64}
 use mir.Val.{Fits}
 use borrow.Author.Needs.{needs}
-use borrow.Author.Tests.{ne-eqb, eq-eqb, lt-ltb}
-use Rattle.datatype.specs.Datatype.{Leaf, Datatype, Members, size, elements}
+use borrow.Author.Tests.{ne-eqb, lt-ltb}
+use Rattle.layout.proofs.Edits.{fails, holds}
+use Rattle.datatype.specs.Datatype.{Leaf, Datatype, Members, size, elements, same}
 use Rattle.datatype.specs.Datatype.Datatype.{leaf, compound, array}
 use Rattle.datatype.specs.Paths.{Lookup, onFound, isCompound, isArrayLike}
 use Rattle.datatype.specs.Matches.{Match, further, matchLeaf, matchAt, matchIn}
 use Rattle.datatype.specs.Matches.Match.{unmatched, matched}
 use Rattle.datatype.specs.WellFormed.{WellFormed}
-use Rattle.datatype.proofs.Tests.{within→}
+use Rattle.datatype.proofs.Tests.{within→, same→eq}
 use Rattle.datatype.proofs.Matches.{size-some, size-most, in-range, match-formed}
 use Rattle.table.specs.declared.Found.{Found}
 use Rattle.table.specs.declared.Found.the-variants.{At, Missing}
@@ -28,7 +29,7 @@ use Rattle.paths.specs.declared.Walk.{Walk}
 use Rattle.paths.specs.declared.Walk.the-variants.{On, Same, Off}
 use Rattle.paths.specs.declared.Pair.the-variants.{Matched, Unmatched}
 use Rattle.paths.specs.Leaf.{leafOfType, MatchFound}
-use Rattle.paths.specs.Steps.{Sized, Whole, kindAt, Counts, covers, rowOver, rowEnd, GapEnd, membersOfType, Reaches, matchAfter, Led, Leads, matchNamed, LeadsIn}
+use Rattle.paths.specs.Steps.{Sized, Whole, kindAt, covers, rowOver, rowEnd, GapEnd, membersOfType, Reaches, matchAfter, Led, Leads, matchNamed, LeadsIn}
 use Rattle.paths.proofs.Shapes.{leaf-low, treeKind, tree-kind, compound-node, array-node, leaf-node, decode-step, size-decode, whole, type-low, formed-compound, formed-array, element-some}
 use Rattle.paths.proofs.Rows.{cond-push, over-covers, over-gap, over-formed, over-same, named-formed}
 
@@ -149,21 +150,21 @@ element-short b n z y w x p e l q h =
     le-trans (mul-le-mul-right x (le-of-lt (div-lt-iff-lt-mul {k = y} {x = b} {y = n} p .1 (rw e at l)))) (rw q at h)
 
 module _ (ws : List ℕ) (s : ℕ) (wd : List ℕ) (d b : ℕ) (ks : kindAt ws s ≡ 4) (kd : kindAt wd d ≡ 4) (here : b < sizeWord wd d)
-    {m n : ℕ} (hm : Counts ws s m) (hn : Counts wd d n) where
+    {t : Bool} (alike : t ≡ same (dimensionsAt ws s) (dimensionsAt wd d)) where
   module _ (ts td : List ℕ) (S D : ℕ → Datatype) (fs : Whole S ws ts s) (fd : Whole D wd td d) where
     array-is : (c : ℕ) → matchAt (node S ws ts s) (node D wd td d) c
-        ≡ cond (eqb m n && ltb c (sizeWord wd d))
+        ≡ cond (t && ltb c (sizeWord wd d))
         (further (c / sizeWord wd (baseWord wd d) * sizeWord ws (baseWord ws s)) (matchAt (S (baseWord ws s)) (D (baseWord wd d)) (c % sizeWord wd (baseWord wd d))))
         unmatched
     unfolding matchAt
     array-is c =
-        rw (array-node S ws ts s ks, array-node D wd td d kd, fs .sized (baseWord ws s), fd .sized (baseWord wd d), hm S ts fs ks, hn D td fd kd) refl
+        rw (array-node S ws ts s ks, array-node D wd td d kd, fs .sized (baseWord ws s), fd .sized (baseWord wd d), alike) refl
 
-  pub array-counts : {z : ℕ} → (m ≡ n → ⊥) → Reads (sizeWord wd d) z → (ts td : List ℕ) → Leads ws ts s wd td d b (Off z)
-  array-counts e hz ts td S D fs fd =
-      record { is = λ j l. (omega (arith, hz .is), array-is ts td S D fs fd (b + j) ∙ rw (ne-eqb m n e) refl); onward = omega (arith, hz .is) }
+  pub array-others : {z : ℕ} → not t ≡ true → Reads (sizeWord wd d) z → (ts td : List ℕ) → Leads ws ts s wd td d b (Off z)
+  array-others e hz ts td S D fs fd =
+      record { is = λ j l. (omega (arith, hz .is), array-is ts td S D fs fd (b + j) ∙ rw (fails {t = t} refl e) refl); onward = omega (arith, hz .is) }
 
-  module _ (e : m ≡ n) {l y k x : ℕ} (hl : Reads (baseWord wd d) l) (hy : Reads (sizeWord wd l) y) (hk : Reads (baseWord ws s) k) (hx : Reads (sizeWord ws k) x) where
+  module _ (e : not t ≡ false) {l y k x : ℕ} (hl : Reads (baseWord wd d) l) (hy : Reads (sizeWord wd l) y) (hk : Reads (baseWord ws s) k) (hx : Reads (sizeWord ws k) x) where
     pub array-on : {q a : ℕ} → q ≡ b / y → a ≡ b % y → (ts td : List ℕ) → Leads ws ts s wd td d b (On (q * x) k l a)
     array-on {q} {a} hq ha ts td S D fs fd =
         let gs = formed-array S ws ts s fs ks in
@@ -176,12 +177,12 @@ module _ (ws : List ℕ) (s : ℕ) (wd : List ℕ) (d b : ℕ) (ks : kindAt ws s
               let inside : b + j < sizeWord wd d = in-array b y j r (elements (dimensionsAt wd d)) (sizeWord wd d) product here in (
                 inside,
                 array-is ts td S D fs fd (b + j)
-                    ∙ rw (eq-eqb m n e, lt-ltb (b + j) (sizeWord wd d) inside, ← (hl .is), ← (hy .is), same-element b y j r, in-element b y j r, hq, ha, ← (hk .is), ← (hx .is)) refl,
+                    ∙ rw (holds {t = t} refl e, lt-ltb (b + j) (sizeWord wd d) inside, ← (hl .is), ← (hy .is), same-element b y j r, in-element b y j r, hq, ha, ← (hk .is), ← (hx .is)) refl,
               );
           onward = (
             rw (hq, hx .is, hk .is)
                 (element-short b (elements (dimensionsAt wd d)) (sizeWord wd d) y (sizeWord ws s) (sizeWord ws (baseWord ws s)) some product here
-                (gs .0 .product ∙ ap (λ (c : ℕ). c * sizeWord ws (baseWord ws s)) (sym (hm S ts fs ks) ∙ e ∙ hn D td fd kd)) (gs .0 .most)),
+                (gs .0 .product ∙ ap (λ (c : ℕ). c * sizeWord ws (baseWord ws s)) (ap elements (same→eq (dimensionsAt ws s) (dimensionsAt wd d) (holds alike e)))) (gs .0 .most)),
             rw (ha, ← (hy .is)) (mod-lt b some),
             rw (hk .is) (gs .1),
             rw (hl .is) (gd .1),
@@ -194,7 +195,7 @@ place-fits b y {z} {q} {x} h hz hx e =
     let q-low : q < 4294967296 = omega (arith, div-le-self b y, hz .small, hz .is) in
     record { fits = lt-of-le-of-lt (mul-le-mul (le-pred-of-lt q-low) (le-pred-of-lt (hx .small))) (lit< tt) }
 
-pub ruleset array-laws = (needs, place-fits, array-counts, array-on)
+pub ruleset array-laws = (needs, place-fits, array-others, array-on)
 
 -- ---- by kinds
 

@@ -6,7 +6,7 @@ use mathlib.Core.Bool.{Bool, true, cond}
 use mathlib.Core.Logic.{_⊎_}
 use mathlib.Core.Option.{Option, none, some}
 use lib.Dec.{eqb}
-use Rattle.datatype.specs.Datatype.{Leaf, Datatype, Members, size, elements}
+use Rattle.datatype.specs.Datatype.{Leaf, Datatype, Members, size}
 use Rattle.datatype.specs.Leaves.{within, leafAt}
 use Rattle.datatype.specs.Paths.{onFound, memberNamed, hasPath, pathsTo}
 use Rattle.datatype.specs.Matches.{Match, further, matchAt}
@@ -14,7 +14,7 @@ use Rattle.datatype.specs.Matches.Match.{unmatched, matched}
 use Rattle.datatype.specs.WellFormed.{WellFormed, WellFormedIn}
 use Rattle.table.specs.declared.Found.{Found}
 use Rattle.table.specs.declared.Found.the-variants.{At, Missing}
-use Rattle.table.specs.Table.{classWord, sizeWord, firstWord, rowsWord, offsetWord, memberTypeWord, nameAt, membersAt, dimensionsAt, node}
+use Rattle.table.specs.Table.{classWord, sizeWord, firstWord, rowsWord, offsetWord, memberTypeWord, nameAt, membersAt, node}
 use Rattle.paths.specs.declared.Step.{Step}
 use Rattle.paths.specs.declared.Step.the-variants.{Go, Here, Gone}
 use Rattle.paths.specs.declared.Walk.{Walk}
@@ -42,10 +42,6 @@ kindOf c = cond (eqb c 4) 4 (cond (eqb c 3) 3 (cond (eqb c 2) 2 (cond (eqb c 1) 
 
 abbrev pub kindAt : List ℕ → ℕ → ℕ
 kindAt w i = kindOf (classWord w i)
-
--- r is the number of elements of type i, if that is an array
-abbrev pub Counts : List ℕ → ℕ → ℕ → Type 0
-Counts w i r = (D : ℕ → Datatype) (t : List ℕ) → Whole D w t i → kindAt w i ≡ 4 → r ≡ elements (dimensionsAt w i)
 
 -- ---- rows
 

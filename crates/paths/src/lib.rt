@@ -3,6 +3,7 @@
 // at a level, and once more at those of the destination where it ends between members. A plan takes one walk for each matched leaf and one for each part
 // without a match: the rest of a member whose name the source lacks, of a gap between members, or of a type that does not fit. Each of these has a byte of
 // its own, so they are at most 4,096. The members of a type do not overlap, so the question for a path meets at most 4,096 pairs of types at a level.
+pub mod dimensions;
 pub mod leaf;
 pub mod numbers;
 pub mod types;

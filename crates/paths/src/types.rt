@@ -4,10 +4,8 @@ ghost use Prim.Native.Nat.{_<_};
 ghost use Rattle.datatype.specs.Leaves.{within};
 ghost use Rattle.table.specs.Table.{nameAt, firstWord, rowsWord};
 ghost use Rattle.table.specs.Rows.{rowNamed};
-ghost use Rattle.paths.specs.Steps.{covers, rowOver, rowEnd, Nearer, GapEnd, kindAt, Counts};
-use crate::numbers::quotient;
+ghost use Rattle.paths.specs.Steps.{covers, rowOver, rowEnd, Nearer, GapEnd, kindAt};
 use row_lookup::row_named;
-use table::BASE;
 use table::CLASS;
 use table::CLASSES;
 use table::FIRST;
@@ -129,14 +127,4 @@ pub fn kind_at(half: &[u32], type_number: usize) -> usize
 {
     let class = type_word(half, type_number, CLASS);
     if class < CLASSES { class } else { INT }
-}
-
-// How many elements the array type has.
-pub fn count_at(half: &[u32], type_number: usize) -> usize
-    ensures { λ r. ⌜ Counts (now (half .entry)) «type_number» r ⌝ }
-{
-    let z = type_word(half, type_number, SIZE);
-    let k = type_word(half, type_number, BASE);
-    let y = type_word(half, k, SIZE);
-    quotient(z, y)
 }

@@ -90,6 +90,36 @@ fn case_5() {
     show_bytes(&written);
 }
 
+// Arrays of one total and other dimensions, from the sheet `source` to the sheet `destination`.
+fn case_5_array(source: &[u8], destination: &[u8]) {
+    let mut written = [0x77u8, 0x77];
+    let mut table = [7u32; 8192];
+    let a = convert_copying(
+        source,
+        destination,
+        0,
+        0,
+        b"\x05\x06",
+        &mut written,
+        &mut table,
+    );
+    show_answer(a);
+    show_bytes(&written);
+}
+
+fn case_5_map() {
+    show(b"5 map of 2 by 6 to 3 by 4");
+    case_5_array(
+        b"int\t1\tLE\t0\t8\tzero\tzero\tunsigned\narray\t0\t2\t6\n",
+        b"int\t1\tLE\t0\t8\tzero\tzero\tunsigned\narray\t0\t3\t4\n",
+    );
+    show(b"5 array of 6 to 6 by 1");
+    case_5_array(
+        b"int\t1\tLE\t0\t8\tzero\tzero\tunsigned\narray\t0\t6\n",
+        b"int\t1\tLE\t0\t8\tzero\tzero\tunsigned\narray\t0\t6\t1\n",
+    );
+}
+
 fn case_6() {
     show(b"6 count 65537");
     let mut written = [0x77u8];
@@ -113,5 +143,6 @@ fn main() {
     case_3();
     case_4();
     case_5();
+    case_5_map();
     case_6();
 }

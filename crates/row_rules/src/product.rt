@@ -3,10 +3,9 @@ ghost use mathlib.Core.Path.{_≡_};
 ghost use Prim.Native.Nat.{_<_};
 ghost use Rattle.sheet_steps.specs.Steps.{totalOf};
 use sheet_steps::Total;
+use table::RANKS;
 
-// An array has at most so many dimensions and bytes.
-const RANKS: usize = 4;
-
+// An array has at most so many bytes.
 const MOST_BYTES: usize = 4096;
 
 // The dimensions' product times size, factor by factor, so that nothing wraps. A dimension of 0 ends them.

@@ -15,7 +15,7 @@ pub const MOST_ROWS: usize = 256;
 
 pub const ROW_WORDS: usize = 8;
 
-// The words of a type's record: the class and the layout, an array's base, where its rows begin and how many they are, and an array's four dimensions.
+// The words of a type's record: the class and the layout, an array's base, where its rows begin and how many they are.
 pub const CLASS: usize = 0;
 
 pub const SIZE: usize = 1;
@@ -37,6 +37,11 @@ pub const BASE: usize = 8;
 pub const FIRST: usize = 9;
 
 pub const ROWS: usize = 10;
+
+// The first of an array's dimensions, of which there are at most so many.
+pub const DIMENSIONS: usize = 11;
+
+pub const RANKS: usize = 4;
 
 // Classes.
 pub const INT: usize = 0;

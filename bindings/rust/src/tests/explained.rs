@@ -40,7 +40,12 @@ fn path_names_the_member() {
             &record(&three, 3, 1, "boost"),
             &record(&four, 4, 1, "boost")
         ),
-        "`boost` has 3 elements in the source and 4 in the destination: give both as many"
+        "`boost` is an array of 3 in the source and of 2 by 2 in the destination: give both the same dimensions"
+    );
+    let map = |dimensions: &[u8]| record(&[BYTE, b"array\t0\t", dimensions, b"\n"].concat(), 12, 1, "map");
+    assert_eq!(
+        path(&map(b"2\t6"), &map(b"3\t4")),
+        "`map` is an array of 2 by 6 in the source and of 3 by 4 in the destination: give both the same dimensions"
     );
     let inner = [BITS, b"array\t0\t3\ncomp\t3\nmember\tboost\t0\t1\n"].concat();
     let other = [BYTE, b"array\t0\t3\ncomp\t3\nmember\tboost\t0\t1\n"].concat();
@@ -164,7 +169,7 @@ fn what_is_not_found_is_not_said() {
     );
     assert_eq!(
         explained([5, 0, 0, 0, 0, 0, 0, 0], &call),
-        "PATH (5): no path from the source type to the destination type: give members of one name the same class, and arrays as many elements"
+        "PATH (5): no path from the source type to the destination type: give members of one name the same class, and arrays the same dimensions"
     );
     assert_eq!(
         explained([7, 0, 0, 0, 0, 0, 0, 0], &call),

@@ -9,7 +9,6 @@ match-array-spec =
     (tie.spec
     (λ c κs. search array-laws)
     (λ c κs. search array-laws)
-    (λ c κs. search array-laws)
     (λ c. search array-laws)
     (λ c κs. search array-laws)
     (λ c κs. search array-laws)

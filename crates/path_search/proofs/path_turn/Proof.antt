@@ -13,7 +13,6 @@ path-turn-spec =
     (λ c. search turn-laws)
     (λ c. search turn-laws)
     (λ c κs. search turn-laws)
-    (λ c κs. search turn-laws)
     (λ c. search turn-laws)
     (λ c κs. search turn-laws)
     (λ c κs. search turn-laws)

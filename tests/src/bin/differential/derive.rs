@@ -62,7 +62,9 @@ fn change(random: &mut Random, model: &mut Model, chosen: usize) {
                 let all: u64 = dimensions.iter().chain(others).product();
                 (*base, *dimensions) = (*inner, vec![all]);
             }
-            _ => reshape(random, dimensions),
+            // Nor have other dimensions, of the same total or not.
+            _ if random.percent(30) => reshape(random, dimensions),
+            _ => {}
         },
     }
     model.types[chosen] = line;

@@ -2,6 +2,7 @@
 
 use crate::run::{Run, Seen};
 use crate::tally::Tally;
+use independent::datatype::Datatype;
 use independent::paths;
 use independent::sheet;
 
@@ -62,6 +63,9 @@ fn note_pairs(tally: &mut Tally, run: &Run) {
     refuses[6] = run.count > 65_536;
     if let (Ok(from), Ok(to)) = (from, to) {
         refuses[5] = !paths::has_path(&from, &to);
+        if refuses[5] && reshaped(&from, &to) {
+            tally.saw("arrays of one total and other dimensions");
+        }
         let longer = if run.form.is_copying() {
             from.size()
         } else {
@@ -77,5 +81,28 @@ fn note_pairs(tally: &mut Tally, run: &Run) {
                 tally.saw(&format!("{first} and {second} at once"));
             }
         }
+    }
+}
+
+/// Whether arrays on the same way have as many elements in other dimensions.
+fn reshaped(source: &Datatype, destination: &Datatype) -> bool {
+    match (source, destination) {
+        (
+            Datatype::Array {
+                base: from,
+                dimensions: lengths,
+            },
+            Datatype::Array { base, dimensions },
+        ) => {
+            let total = |lengths: &[u64]| lengths.iter().product::<u64>();
+            (lengths != dimensions && total(lengths) == total(dimensions)) || reshaped(from, base)
+        }
+        (Datatype::Comp { members: from, .. }, Datatype::Comp { members, .. }) => {
+            members.iter().any(|member| {
+                let other = from.iter().find(|other| other.name == member.name);
+                other.is_some_and(|other| reshaped(&other.datatype, &member.datatype))
+            })
+        }
+        _ => false,
     }
 }

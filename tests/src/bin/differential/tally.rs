@@ -8,7 +8,7 @@ use std::collections::BTreeMap;
 pub struct Tally(BTreeMap<String, u64>);
 
 /// Beside the answers, what a whole run must have met.
-const NEEDED: [&str; 92] = [
+const NEEDED: [&str; 93] = [
     "case: conversion",
     "case: conversion with many refusals",
     "case: conversion at the limits",
@@ -35,6 +35,7 @@ const NEEDED: [&str; 92] = [
     "5 and 6 at once",
     "5 and 7 at once",
     "6 and 7 at once",
+    "arrays of one total and other dimensions",
     "in place, growing, several records",
     "in place, shrinking, several records",
     "list of 4,096-byte records",
