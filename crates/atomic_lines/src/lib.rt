@@ -1,6 +1,6 @@
-// The columns of a layout, and the lines of an int and of a bits from behind their first word.
+// The columns of a layout, and the lines of an int, of a bits and of a real from behind their first word.
 ghost use mathlib.Core.Path.{_≡_};
-ghost use Rattle.line.specs.Line.{intLine, bitsLine};
+ghost use Rattle.line.specs.Line.{intLine, bitsLine, realLineOf};
 ghost use Rattle.line.specs.Column.{placeAt, padsAt, layoutAt, signedAs};
 ghost use Rattle.line.specs.Read.{Reads, columnsReading, plainLine};
 use bits::BitAt;
@@ -107,4 +107,19 @@ pub fn bits_line(s: &[u8], q: usize) -> Line
         return Line::Fault;
     };
     Line::Atomic(l, next)
+}
+
+pub fn real_line(s: &[u8], q: usize) -> Line
+    ensures { λ r. ⌜ Reads (now (s .entry)) (plainLine r) (columnsReading (now (s .entry)) q realLineOf) ⌝ }
+{
+    let Field::Number(size, a) = number_column(s, q) else {
+        return Line::Fault;
+    };
+    let OrderColumn::Holds(order, b) = order_column(s, a) else {
+        return Line::Fault;
+    };
+    let Next::At(next) = next_line(s, b) else {
+        return Line::Fault;
+    };
+    Line::Real(size, order, next)
 }

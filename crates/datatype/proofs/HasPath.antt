@@ -1,5 +1,5 @@
 -- A path exists exactly where `hasPath` computes one. Assumes nothing.
-use mathlib.Core.Path.{_≡_, refl, subst}
+use mathlib.Core.Path.{_≡_, refl, sym, subst}
 use mathlib.Core.Logic.{_↔_, ⊎-elim}
 use mathlib.Core.Bool.{true, false≢true}
 use mathlib.Core.List.{List}
@@ -7,14 +7,14 @@ use Prim.Native.Nat.{ℕ}
 use Rattle.layout.specs.declared.Class.{Class}
 use Rattle.layout.specs.declared.Class.the-variants.{Int, Bits}
 use Rattle.datatype.specs.Datatype.{Leaf, Datatype, Members}
-use Rattle.datatype.specs.Datatype.Leaf.{atomic, enumeration}
+use Rattle.datatype.specs.Datatype.Leaf.{atomic, enumeration, real}
 use Rattle.datatype.specs.Datatype.Datatype.{leaf, compound, array}
 use Rattle.datatype.specs.Datatype.Members.{empty, member}
 use Rattle.datatype.specs.Paths.{sameClass, Lookup, onFound, memberNamed, isLeafLike, isCompound, membersOf, isArrayLike, baseOf, hasPath, pathsTo}
 use Rattle.datatype.specs.Paths.Lookup.{missing, found}
 use Rattle.datatype.specs.WellFormed.{WellFormed, WellFormedIn}
 use Rattle.datatype.specs.HasPath.{HasPath}
-use Rattle.datatype.specs.HasPath.HasPath.{same-class, enums, arrays, compounds}
+use Rattle.datatype.specs.HasPath.HasPath.{same-class, enums, int-to-real, real-to-int, reals, arrays, compounds}
 use Rattle.datatype.proofs.Tests.{and-true, both, same→eq, same-refl}
 use Rattle.datatype.proofs.Ways.{not-found, found-first, found-later, found-cases, same-type}
 
@@ -31,8 +31,13 @@ same-itself Bits = refl
 leaf-path : (S : Datatype) (y : Leaf) → isLeafLike S y ≡ true → HasPath S (leaf y)
 leaf-path (leaf (atomic l)) (atomic k) e = same-class (class-same (l .class) (k .class) e)
 leaf-path (leaf (atomic l)) (enumeration k ts) e = absurd (false≢true e)
+leaf-path (leaf (atomic l)) (real k) e = int-to-real (class-same (l .class) Int e)
 leaf-path (leaf (enumeration l ss)) (atomic k) e = absurd (false≢true e)
 leaf-path (leaf (enumeration l ss)) (enumeration k ts) e = enums
+leaf-path (leaf (enumeration l ss)) (real k) e = absurd (false≢true e)
+leaf-path (leaf (real l)) (atomic k) e = real-to-int (sym (class-same Int (k .class) e))
+leaf-path (leaf (real l)) (enumeration k ts) e = absurd (false≢true e)
+leaf-path (leaf (real l)) (real k) e = reals
 leaf-path (compound z ss) y e = absurd (false≢true e)
 leaf-path (array z es T) y e = absurd (false≢true e)
 
@@ -76,6 +81,9 @@ mutual
 said-leaf : {S : Datatype} {y : Leaf} → HasPath S (leaf y) → isLeafLike S y ≡ true
 said-leaf (same-class {l = l} e) = subst (λ (c : Class). sameClass (l .class) c ≡ true) e (same-itself (l .class))
 said-leaf enums = refl
+said-leaf (int-to-real e) = rw e
+said-leaf (real-to-int e) = rw e
+said-leaf reals = refl
 
 said-compound : {S : Datatype} {w : ℕ} {ms : Members} → HasPath S (compound w ms) → (isCompound S ≡ true) × Each (membersOf S) ms
 said-compound (compounds h) = (refl, h)

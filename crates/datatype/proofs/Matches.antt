@@ -11,7 +11,7 @@ use native.Mathlib.Omega.{arith}
 use Rattle.layout.specs.declared.Class.{Class}
 use Rattle.layout.specs.declared.Class.the-variants.{Int, Bits}
 use Rattle.datatype.specs.Datatype.{Leaf, leafSize, Datatype, Members, size, elements, same}
-use Rattle.datatype.specs.Datatype.Leaf.{atomic, enumeration}
+use Rattle.datatype.specs.Datatype.Leaf.{atomic, enumeration, real}
 use Rattle.datatype.specs.Datatype.Datatype.{leaf, compound, array}
 use Rattle.datatype.specs.Datatype.Members.{empty, member}
 use Rattle.datatype.specs.Leaves.{leafAt}
@@ -61,8 +61,13 @@ class-back Bits Bits e = refl
 leaf-back : (x y : Leaf) → leafPath x y ≡ true → leafPath y x ≡ true
 leaf-back (atomic l) (atomic k) e = class-back (l .class) (k .class) e
 leaf-back (atomic l) (enumeration k ts) e = absurd (false≢true e)
+leaf-back (atomic l) (real k) e = class-back (l .class) Int e
 leaf-back (enumeration l ss) (atomic k) e = absurd (false≢true e)
 leaf-back (enumeration l ss) (enumeration k ts) e = refl
+leaf-back (enumeration l ss) (real k) e = absurd (false≢true e)
+leaf-back (real l) (atomic k) e = class-back Int (k .class) e
+leaf-back (real l) (enumeration k ts) e = absurd (false≢true e)
+leaf-back (real l) (real k) e = refl
 
 either : (n x : List ℕ) (q o : ℕ) (X T : Datatype) (ms : Members) (S : Datatype) → (hasPath S X ≡ true → hasPath X S ≡ true)
     → (memberNamed n ms ≡ found o T → hasPath T S ≡ true)

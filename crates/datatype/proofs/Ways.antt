@@ -11,7 +11,7 @@ use lib.Dec.{ltb, eqb}
 use borrow.Author.Tests.{ltb-true, eqb-true, lt-ltb, eq-eqb, ne-eqb}
 use Rattle.layout.specs.Layout.{Valid}
 use Rattle.datatype.specs.Datatype.{Leaf, layoutOf, leafSize, Datatype, Members, size, elements, same}
-use Rattle.datatype.specs.Datatype.Leaf.{atomic, enumeration}
+use Rattle.datatype.specs.Datatype.Leaf.{atomic, enumeration, real}
 use Rattle.datatype.specs.Datatype.Datatype.{leaf, compound, array}
 use Rattle.datatype.specs.Datatype.Members.{empty, member}
 use Rattle.datatype.specs.Leaves.{within, leafAt, leafIn}
@@ -127,6 +127,16 @@ way-range (element {b = b} {ds = ds} {T = T} {y = y} k e h t) f =
 pub valid : (y : Leaf) → WellFormedLeaf y → Valid (layoutOf y)
 valid (atomic l) f = f
 valid (enumeration l ss) f = f .base
+valid (real l) f =
+    subst Valid (sym f)
+    (record {
+      some-bytes = omega arith;
+      sized = omega arith;
+      some = omega arith;
+      most = omega arith;
+      inside = omega arith;
+      sign = refl;
+    })
 
 pub leaf-pos : (y : Leaf) → WellFormedLeaf y → 1 ≤ leafSize y
 leaf-pos y f = valid y f .some-bytes

@@ -5,7 +5,7 @@ use Prim.Native.Nat.{ℕ}
 use Rattle.layout.specs.declared.Class.{Class}
 use Rattle.layout.specs.declared.Class.the-variants.{Int, Bits}
 use Rattle.datatype.specs.Datatype.{Leaf, Datatype, Members, same, sameDimensions}
-use Rattle.datatype.specs.Datatype.Leaf.{atomic, enumeration}
+use Rattle.datatype.specs.Datatype.Leaf.{atomic, enumeration, real}
 use Rattle.datatype.specs.Datatype.Datatype.{leaf, compound, array}
 use Rattle.datatype.specs.Datatype.Members.{empty, member}
 
@@ -15,12 +15,17 @@ sameClass Int Bits = false
 sameClass Bits Int = false
 sameClass Bits Bits = true
 
--- "A path runs from int to int, bits to bits, enum to enum"
+-- "A path runs from int to int, bits to bits, enum to enum"; document 02, 2026-03: a real, "with paths to and from int and to another real"
 abbrev pub leafPath : Leaf → Leaf → Bool
 leafPath (atomic l) (atomic k) = sameClass (l .class) (k .class)
 leafPath (atomic l) (enumeration k ts) = false
+leafPath (atomic l) (real k) = sameClass (l .class) Int
 leafPath (enumeration l ss) (atomic k) = false
 leafPath (enumeration l ss) (enumeration k ts) = true
+leafPath (enumeration l ss) (real k) = false
+leafPath (real l) (atomic k) = sameClass Int (k .class)
+leafPath (real l) (enumeration k ts) = false
+leafPath (real l) (real k) = true
 
 -- a member that is looked for by its name: its offset and its type, if it is there
 pub data Lookup : Type 0 where

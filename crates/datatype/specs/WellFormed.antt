@@ -9,8 +9,8 @@ use Rattle.layout.specs.declared.Class.the-variants.{Int}
 use Rattle.layout.specs.declared.Layout.{Layout}
 use Rattle.layout.specs.Layout.{Valid}
 use Rattle.number.specs.Number.{fitted}
-use Rattle.datatype.specs.Datatype.{Symbol, Leaf, Datatype, Members, size, elements}
-use Rattle.datatype.specs.Datatype.Leaf.{atomic, enumeration}
+use Rattle.datatype.specs.Datatype.{Symbol, Leaf, binary64, Datatype, Members, size, elements}
+use Rattle.datatype.specs.Datatype.Leaf.{atomic, enumeration, real}
 use Rattle.datatype.specs.Datatype.Datatype.{leaf, compound, array}
 use Rattle.datatype.specs.Datatype.Members.{empty, member}
 use Rattle.datatype.specs.Symbols.{symbolOf, numberOf}
@@ -36,6 +36,7 @@ pub record Enumeration (l : Layout) (ss : List Symbol) : Type 0 where
 abbrev pub WellFormedLeaf : Leaf → Type 0
 WellFormedLeaf (atomic l) = Valid l
 WellFormedLeaf (enumeration l ss) = Enumeration l ss
+WellFormedLeaf (real l) = l ≡ binary64 (l .order)
 
 -- the w bytes from offset on overlap no member
 abbrev pub Apart : ℕ → ℕ → Members → Type 0

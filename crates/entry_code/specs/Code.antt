@@ -1,6 +1,6 @@
 -- The first word of an entry of a plan: how its leaf is converted, and the small numbers of its two layouts.
--- Routes: 0 number by number, as any two layouts are; 1 and 2 an easy pair, by the source's order; 3 and 4 an enum by its span, likewise, where the destination has no bits beside its number; 5 any
--- other enum by its span; 6 an enum whose rows are looked through.
+-- Routes: 0 number by number, as any two layouts are; 1 and 2 an easy pair, by the source's order; 3 between a real and another leaf; 4 and 5 an enum by its span, by the source's order, where the
+-- destination has no bits beside its number; 6 any other enum by its span; 7 an enum whose rows are looked through.
 use Prim.Native.Nat.{ℕ, _+_, _*_, _/_, _%_}
 
 -- a route, how far the source's number lies above bit 0, the source's precision, the destination's size, order and precision

@@ -10,13 +10,15 @@ pub const EASY_LE: usize = 1;
 
 pub const EASY_BE: usize = 2;
 
-pub const SPAN_LE: usize = 3;
+pub const REAL: usize = 3;
 
-pub const SPAN_BE: usize = 4;
+pub const SPAN_LE: usize = 4;
 
-pub const SPAN: usize = 5;
+pub const SPAN_BE: usize = 5;
 
-pub const LOOKED_UP: usize = 6;
+pub const SPAN: usize = 6;
+
+pub const LOOKED_UP: usize = 7;
 
 // The words of an entry: the packed word, and three more, which go by the route.
 pub const SECOND: usize = 1;

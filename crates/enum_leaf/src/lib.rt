@@ -45,7 +45,7 @@ fn raw_code(
     words: &[u32],
     place: usize,
 ) -> usize
-    requires { ⌜ Valid l × (l ≡ layoutAt (now «source_half») «source_type») × (raw < 2 ^ l .precision) × (place + 4 ≤ length (now words)) × (3 ≤ routeIn (getD (now words) place 0)) ⌝ }
+    requires { ⌜ Valid l × (l ≡ layoutAt (now «source_half») «source_type») × (raw < 2 ^ l .precision) × (place + 4 ≤ length (now words)) × (4 ≤ routeIn (getD (now words) place 0)) ⌝ }
     ensures { λ r. ⌜ ((p : Pair «source_type» «destination_type» (now («source_half» .entry)) (now («destination_half» .entry)) (now (words .entry)) place) → r ≡ translatedCode (now («source_half» .entry)) (p .sourceText) (now («destination_half» .entry)) (p .destinationText) «source_type» «destination_type» raw) ⌝ }
 {
     if route_in(at(words, place)) < LOOKED_UP {

@@ -12,7 +12,7 @@ use mir.Syntax.{w64}
 use mir.Val.{SFits, toZ, ofZ}
 use mir.Facts.{toZ-ofZ}
 use Rattle.number.specs.Number.{largest, smallest, bitsOf, fittedTo}
-use Rattle.number.proofs.Range.{most-le, sub-one-sub}
+use Rattle.number.proofs.Range.{most-le, sub-one-sub, signed-below, signed-negative}
 use Rattle.fitting.specs.Signed.{InSigned}
 
 -- ---- the three cases of either range
@@ -92,3 +92,17 @@ pub negative-bits : (p d : ℕ) (z : ℤ) → z ≡ negsuc d → InSigned p z �
 negative-bits p d z e h =
     let t : ltZ (negsuc d) (smallest true p) ≡ false = rw e at (h .1) in
     (le-trans (ltb-false _ _ t) (most-le p), sub-one-sub (2 ^ p) d ∙ sym (ap (bitsOf p) e))
+
+-- ---- a negative number by its distance d from -1, where a is p bits, all set, and m the distance of the signed range's smallest number
+module _ (p d a m : ℕ) (ea : a ≡ 2 ^ p - 1) (em : m ≡ 2 ^ (p - 1) - 1) where
+  pub farthest-le : m ≤ a
+  farthest-le = rw (em, ea) (most-le p)
+
+  pub negative-under : m < d → record { raw = a - m; kind = 2 } ≡ fittedTo true p (negsuc d)
+  negative-under h =
+      ap (λ (r : ℕ). record { raw = r; kind = 2 }) (ap (λ (x : ℕ). x - m) ea ∙ ap (λ (x : ℕ). 2 ^ p - 1 - x) em ∙ sub-one-sub (2 ^ p) (2 ^ (p - 1) - 1))
+      ∙ sym (signed-below p d (rw em at h))
+
+  pub negative-in : d ≤ m → record { raw = a - d; kind = 0 } ≡ fittedTo true p (negsuc d)
+  negative-in h =
+      ap (λ (r : ℕ). record { raw = r; kind = 0 }) (ap (λ (x : ℕ). x - d) ea ∙ sub-one-sub (2 ^ p) d) ∙ sym (signed-negative p d (rw em at h))

@@ -7,6 +7,9 @@ ghost use Rattle.layout.specs.Layout.{Valid};
 ghost use Rattle.number.specs.Number.{valued, largest, smallest, bitsOf, fittedTo, fitted};
 ghost use Rattle.number.specs.Parts.{meaning};
 ghost use Rattle.fitting.specs.Signed.{InSigned};
+
+pub mod by_parts;
+
 use bits::shift::ones;
 use layout::Layout;
 use number::ABOVE;

@@ -2,12 +2,18 @@
 ghost use mathlib.Core.Path.{_≡_};
 ghost use Prim.Native.Nat.{_<_};
 ghost use Rattle.number.specs.Parts.{signedBy};
-ghost use Rattle.line.specs.Line.Line.{atomicLine, enumLine, valueLine, compoundLine, memberLine, arrayLine};
+ghost use Rattle.datatype.specs.Datatype.{binary64};
+ghost use Rattle.line.specs.Line.Line.{atomicLine, enumLine, valueLine, compoundLine, memberLine, arrayLine, realLine};
 ghost use Rattle.table.specs.Table.{bytesAt, upToZero, Holds};
 ghost use Rattle.sheet.specs.Sheet.{judgedAfter};
 ghost use Rattle.sheet_steps.specs.Judged.{soFarAt, Judges};
 ghost use Rattle.sheet_steps.specs.Steps.{isIntAt, TypeAdded, RowAdded};
+use bits::BitAt;
+use bits::ByteAt;
+use bits::Order;
+use layout::Class;
 use layout::Layout;
+use layout::Pad;
 use row_rules::member::may_place;
 use row_rules::product::total;
 use row_rules::value::may_list;
@@ -16,11 +22,11 @@ use sheet_steps::MOST_BYTES;
 use sheet_steps::MOST_ROWS;
 use sheet_steps::MOST_TYPES;
 use sheet_steps::Total;
-use table::ARRAY;
 use table::CLASS;
 use table::COMPOUND;
 use table::ENUM;
 use table::INT;
+use table::REAL;
 use table::SIZE;
 use table::read::layout_at;
 use table::read::type_word;
@@ -29,6 +35,7 @@ use table_records::atomic_record;
 use table_records::compound_record;
 use table_records::enum_record;
 use table_records::member_record;
+use table_records::real_record;
 use table_records::value_record;
 
 // The record of the next type, where there is room for it.
@@ -66,7 +73,41 @@ pub fn judge_atomic(half: &mut [u32], sheet: &[u8], types: u32, rows: u32, l: La
     next_type(half, types, rows, atomic_record(l, rows))
 }
 
-// The type is an int. A class above 4 reads as one too.
+// All bits of 8 bytes.
+fn double(order: Order) -> Layout
+    ensures { λ r. ⌜ r ≡ binary64 order ⌝ }
+{
+    Layout {
+        class: Class::Int,
+        size: ByteAt(8),
+        order,
+        offset: BitAt(0),
+        precision: 64,
+        lsb: Pad::Zero,
+        msb: Pad::Zero,
+        signed: false,
+    }
+}
+
+pub fn judge_real(
+    half: &mut [u32],
+    sheet: &[u8],
+    types: u32,
+    rows: u32,
+    size: u32,
+    order: Order,
+) -> Judged
+    requires { ⌜ Holds (now half) types rows ⌝ }
+    ensures { λ r. ⌜ Judges (now (half .exit)) (now (sheet .entry)) (judgedAfter (soFarAt (now (half .entry)) (now (sheet .entry)) types rows) (realLine size order)) r ⌝ }
+{
+    if size != 8 {
+        return Judged::Refused;
+    }
+    let l = double(order);
+    next_type(half, types, rows, real_record(l, rows))
+}
+
+// The type is an int. A class above 5 reads as one too.
 fn is_int(half: &[u32], type_number: usize) -> bool
     ensures { λ r. ⌜ r ≡ isIntAt (now (half .entry)) «type_number» ⌝ }
 {
@@ -74,7 +115,7 @@ fn is_int(half: &[u32], type_number: usize) -> bool
     if class == INT {
         return true;
     }
-    ARRAY < class
+    REAL < class
 }
 
 pub fn judge_enum(half: &mut [u32], sheet: &[u8], types: u32, rows: u32, base: u32) -> Judged

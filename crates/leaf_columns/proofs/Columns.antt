@@ -25,9 +25,13 @@ module _ {c : ℕ} where
   unfolding classColumn
   class-bits e = rw e
 
-  pub class-int : (c ≡ 2 → ⊥) → (c ≡ 1 → ⊥) → classColumn c ≡ bytes "int\n"
+  pub class-real : c ≡ 5 → classColumn c ≡ bytes "real\n"
   unfolding classColumn
-  class-int h k = rw (ne-eqb c 2 h, ne-eqb c 1 k)
+  class-real e = rw e
+
+  pub class-int : (c ≡ 2 → ⊥) → (c ≡ 5 → ⊥) → (c ≡ 1 → ⊥) → classColumn c ≡ bytes "int\n"
+  unfolding classColumn
+  class-int h l k = rw (ne-eqb c 2 h, ne-eqb c 5 l, ne-eqb c 1 k)
 
   pub enum-length : c ≡ 2 → 5 ≡ length (classColumn c)
   enum-length e = rw (class-enum e)
@@ -35,10 +39,13 @@ module _ {c : ℕ} where
   pub bits-length : c ≡ 1 → 5 ≡ length (classColumn c)
   bits-length e = rw (class-bits e)
 
-  pub int-length : (c ≡ 2 → ⊥) → (c ≡ 1 → ⊥) → 4 ≡ length (classColumn c)
-  int-length h k = rw (class-int h k)
+  pub real-length : c ≡ 5 → 5 ≡ length (classColumn c)
+  real-length e = rw (class-real e)
 
-pub ruleset class-laws = (needs, enum-length, bits-length, int-length)
+  pub int-length : (c ≡ 2 → ⊥) → (c ≡ 5 → ⊥) → (c ≡ 1 → ⊥) → 4 ≡ length (classColumn c)
+  int-length h l k = rw (class-int h l k)
+
+pub ruleset class-laws = (needs, enum-length, bits-length, real-length, int-length)
 
 -- ---- lengths
 

@@ -14,7 +14,8 @@ column n = decimalOf n ++ (tab ∷ [])
 
 -- the last column by the class word of a leaf's type, and the newline behind it
 unfoldable pub classColumn : ℕ → List ℕ
-classColumn c = cond (eqb c 2) (bytes "enum\n") (cond (eqb c 1) (bytes "bits\n") (bytes "int\n"))
+classColumn c =
+    cond (eqb c 2) (bytes "enum\n") (cond (eqb c 5) (bytes "real\n") (cond (eqb c 1) (bytes "bits\n") (bytes "int\n")))
 
 unfoldable pub columns : ℕ → ℕ → ℕ → List ℕ
 columns b z c = column b ++ column z ++ classColumn c

@@ -6,6 +6,7 @@ ghost use Rattle.text.specs.Written.{Wrote};
 ghost use Rattle.leaf_columns.specs.Columns.{column, classColumn, columns, Length};
 use table::BITS;
 use table::ENUM;
+use table::REAL;
 use text_writing::decimal_len;
 use text_writing::put_bytes;
 use text_writing::put_decimal;
@@ -14,6 +15,8 @@ fn class_len(class: usize) -> usize
     ensures { λ r. ⌜ (r ≡ length (classColumn class)) × (r ≤ 5) ⌝ }
 {
     if class == ENUM {
+        5
+    } else if class == REAL {
         5
     } else if class == BITS {
         5
@@ -35,6 +38,9 @@ fn put_class(list: &mut [u8], at: usize, class: usize) -> usize
 {
     if class == ENUM {
         return put_bytes(list, at, b"enum\n");
+    }
+    if class == REAL {
+        return put_bytes(list, at, b"real\n");
     }
     if class == BITS {
         return put_bytes(list, at, b"bits\n");

@@ -9,7 +9,7 @@ use lib.Dec.{eqb}
 use lib.ListN.{length, length-append}
 use lib.Seq.{paste}
 use Rattle.datatype.specs.Datatype.{Datatype}
-use Rattle.datatype.specs.Datatype.Leaf.{atomic, enumeration}
+use Rattle.datatype.specs.Datatype.Leaf.{atomic, enumeration, real}
 use Rattle.datatype.specs.Leaves.{leafAt}
 use Rattle.table.specs.declared.Found.{Found}
 use Rattle.table.specs.declared.Found.the-variants.{At, Missing}
@@ -30,14 +30,15 @@ shape p q s = simp append-assoc
 
 pub leaf-columns : (w t : List ℕ) (b k : ℕ) → leafLine b (leafOfType w t k) ≡ columns b (sizeWord w k) (classWord w k)
 unfolding columns column classColumn leafOfType layoutAt
-leaf-columns w t b k = go (eqb (classWord w k) 2) (eqb (classWord w k) 1) refl
+leaf-columns w t b k = go (eqb (classWord w k) 2) (eqb (classWord w k) 5) (eqb (classWord w k) 1) refl
   where
-    go : (x y : Bool) → eqb (classWord w k) 1 ≡ y
-        → leafLine b (cond x (enumeration (layoutAt w k) (symbolsAt w t (firstWord w k) (rowsWord w k))) (atomic (layoutAt w k)))
-        ≡ decimalOf b ++ (9 ∷ []) ++ (decimalOf (sizeWord w k) ++ (9 ∷ [])) ++ cond x (bytes "enum\n") (cond y (bytes "bits\n") (bytes "int\n"))
-    go true y e = shape (decimalOf b) (decimalOf (sizeWord w k)) (bytes "enum")
-    go false true e = rw e (shape (decimalOf b) (decimalOf (sizeWord w k)) (bytes "bits"))
-    go false false e = rw e (shape (decimalOf b) (decimalOf (sizeWord w k)) (bytes "int"))
+    go : (x u y : Bool) → eqb (classWord w k) 1 ≡ y
+        → leafLine b (cond x (enumeration (layoutAt w k) (symbolsAt w t (firstWord w k) (rowsWord w k))) (cond u (real (layoutAt w k)) (atomic (layoutAt w k))))
+        ≡ decimalOf b ++ (9 ∷ []) ++ (decimalOf (sizeWord w k) ++ (9 ∷ [])) ++ cond x (bytes "enum\n") (cond u (bytes "real\n") (cond y (bytes "bits\n") (bytes "int\n")))
+    go true u y e = shape (decimalOf b) (decimalOf (sizeWord w k)) (bytes "enum")
+    go false true y e = shape (decimalOf b) (decimalOf (sizeWord w k)) (bytes "real")
+    go false false true e = rw e (shape (decimalOf b) (decimalOf (sizeWord w k)) (bytes "bits"))
+    go false false false e = rw e (shape (decimalOf b) (decimalOf (sizeWord w k)) (bytes "int"))
 
 -- ---- the line at a byte
 

@@ -4,7 +4,7 @@ use Prim.Native.Nat.{ℕ, zero, suc}
 use Rattle.layout.specs.declared.Class.{Class}
 use Rattle.layout.specs.declared.Class.the-variants.{Int, Bits}
 use Rattle.datatype.specs.Datatype.{Leaf, leafSize, Datatype, size}
-use Rattle.datatype.specs.Datatype.Leaf.{atomic, enumeration}
+use Rattle.datatype.specs.Datatype.Leaf.{atomic, enumeration, real}
 use Rattle.datatype.specs.Symbols.{onSome}
 use Rattle.datatype.specs.Leaves.{leafAt}
 use Rattle.text.specs.Text.{bytes, tab, newline}
@@ -17,6 +17,7 @@ atomicName Bits = bytes "bits"
 abbrev pub className : Leaf → List ℕ
 className (atomic l) = atomicName (l .class)
 className (enumeration l ss) = bytes "enum"
+className (real l) = bytes "real"
 
 -- a leaf's line: `at⇥size⇥class`
 abbrev pub leafLine : ℕ → Leaf → List ℕ

@@ -58,6 +58,7 @@ pub data Line : Type 0 where
   compoundLine : ℕ → Line  -- the size
   memberLine : List ℕ → ℕ → ℕ → Line  -- the name, the byte offset and the type's number
   arrayLine : ℕ → List ℕ → Line  -- the base's type number and the dimensions
+  realLine : ℕ → Order → Line  -- the size and the order
 
 abbrev pub layout : Class → ℕ → Order → ℕ → ℕ → Pad → Pad → Bool → Layout
 layout class s o at p lsb msb signed =
@@ -101,16 +102,21 @@ numbers (f ∷ fs) = number f >>= λ n. numbers fs >>= λ ns. some (n ∷ ns)
 unfoldable pub arrayLineOf : Fields → Option Line
 arrayLineOf = column number λ base fs. numbers fs >>= λ ds. some (arrayLine base ds)
 
+-- document 02, 2026-03: `real⇥8⇥LE` or `BE`
+unfoldable pub realLineOf : Fields → Option Line
+realLineOf = column number λ z. column order λ o. ends (realLine z o)
+
 -- the kind of a line is its first word
 unfoldable pub lineKind : List ℕ → Option (Fields → Option Line)
 lineKind =
     word (bytes "int") intLine
     (word (bytes "bits") bitsLine
+    (word (bytes "real") realLineOf
     (word (bytes "enum") enumLineOf
     (word (bytes "value") valueLineOf
     (word (bytes "comp") compoundLineOf
     (word (bytes "member") memberLineOf
-    (word (bytes "array") arrayLineOf noWord))))))
+    (word (bytes "array") arrayLineOf noWord)))))))
 
 unfoldable pub lineOf : List ℕ → Option Line
 lineOf text = column lineKind (λ says fs. says fs) (split tab text)

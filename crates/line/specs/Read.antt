@@ -13,10 +13,10 @@ use Rattle.text.specs.Field.{when, _>>=_}
 use Rattle.text.specs.Place.{lineAt, lineEnd, tabAt, newlineAt, fieldsAfter}
 use Rattle.line.specs.Line as said
 use Rattle.line.specs.Column.{holdable}
-use Rattle.line.specs.Line.{Fields, lineOf, word, noWord, compoundLineOf, memberLineOf, arrayLineOf}
-use Rattle.line.specs.Line.Line.{atomicLine, enumLine, valueLine, compoundLine, memberLine, arrayLine}
+use Rattle.line.specs.Line.{Fields, lineOf, word, noWord, valueLineOf, compoundLineOf, memberLineOf, arrayLineOf}
+use Rattle.line.specs.Line.Line.{atomicLine, enumLine, valueLine, compoundLine, memberLine, arrayLine, realLine}
 use Rattle.line.specs.declared.Line.{Line}
-use Rattle.line.specs.declared.Line.the-variants.{Atomic, Enum, Value, Compound, Member, Array, Fault}
+use Rattle.line.specs.declared.Line.the-variants.{Atomic, Enum, Value, Compound, Member, Array, Real, Fault}
 use Rattle.line.specs.declared.ReadLine.{ReadLine}
 
 -- ---- lines that an answer can hold
@@ -32,6 +32,7 @@ readable (atomicLine l) = true
 readable (enumLine base) = true
 readable (compoundLine z) = true
 readable (memberLine x offset k) = true
+readable (realLine z o) = true
 
 -- ---- what an answer says
 
@@ -42,6 +43,7 @@ sayOf s (Value a e negative d n) dims = some (valueLine (take (e - a) (drop a s)
 sayOf s (Compound z n) dims = some (compoundLine z)
 sayOf s (Member a e offset k n) dims = some (memberLine (take (e - a) (drop a s)) offset k)
 sayOf s (Array base n) dims = some (arrayLine base (upToZero dims))
+sayOf s (Real z o n) dims = some (realLine z o)
 sayOf s Fault dims = none
 
 abbrev pub says : List ℕ → ReadLine → Option said.Line
@@ -54,6 +56,7 @@ nextAfter (Value a e negative d n) = n
 nextAfter (Compound z n) = n
 nextAfter (Member a e offset k n) = n
 nextAfter (Array base n) = n
+nextAfter (Real z o n) = n
 nextAfter Fault = 0
 
 -- the place behind the line
@@ -97,7 +100,11 @@ kindReading s q none = faulty
 
 -- the kinds that `later_line` reads
 unfoldable pub laterKind : List ℕ → Option (Fields → Option said.Line)
-laterKind = word (bytes "comp") compoundLineOf (word (bytes "member") memberLineOf (word (bytes "array") arrayLineOf noWord))
+laterKind =
+    word (bytes "value") valueLineOf
+    (word (bytes "comp") compoundLineOf
+    (word (bytes "member") memberLineOf
+    (word (bytes "array") arrayLineOf noWord)))
 
 -- ---- where names lie
 
@@ -112,6 +119,7 @@ namesWithin s (Atomic l n) = true
 namesWithin s (Enum base n) = true
 namesWithin s (Compound z n) = true
 namesWithin s (Array base n) = true
+namesWithin s (Real z o n) = true
 namesWithin s Fault = true
 
 -- an answer that says what it has to say

@@ -19,6 +19,8 @@ pub enum Line {
     Member(usize, usize, u32, u32, usize),
     // The base's type number: the dimensions stand beside.
     Array(u32, usize),
+    // The size and the order.
+    Real(u32, Order, usize),
     Fault,
 }
 

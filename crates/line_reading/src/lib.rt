@@ -5,6 +5,7 @@ ghost use Rattle.line.specs.Read.{Reads, lineReading, kindReading, laterKind};
 use array_lines::array_line;
 use atomic_lines::bits_line;
 use atomic_lines::int_line;
+use atomic_lines::real_line;
 use line::Line;
 use line::ReadLine;
 use line::plain;
@@ -19,6 +20,9 @@ use text::word_at;
 fn later_line(s: &[u8], at: usize, q: usize) -> ReadLine
     ensures { λ r. ⌜ Reads (now (s .entry)) r (kindReading (now (s .entry)) q (laterKind (fieldAt (now (s .entry)) at))) ⌝ }
 {
+    if word_at(s, at, b"value") {
+        return plain(value_line(s, q));
+    }
     if word_at(s, at, b"comp") {
         return plain(comp_line(s, q));
     }
@@ -42,11 +46,11 @@ pub fn read_line(s: &[u8], at: usize) -> ReadLine
     if word_at(s, at, b"bits") {
         return plain(bits_line(s, q));
     }
+    if word_at(s, at, b"real") {
+        return plain(real_line(s, q));
+    }
     if word_at(s, at, b"enum") {
         return plain(enum_line(s, q));
-    }
-    if word_at(s, at, b"value") {
-        return plain(value_line(s, q));
     }
     later_line(s, at, q)
 }

@@ -8,7 +8,7 @@ use lib.ListN.{length, length-append}
 use Rattle.layout.specs.declared.Class.{Class}
 use Rattle.layout.specs.declared.Class.the-variants.{Int, Bits}
 use Rattle.datatype.specs.Datatype.{Leaf, leafSize, Datatype, size}
-use Rattle.datatype.specs.Datatype.Leaf.{atomic, enumeration}
+use Rattle.datatype.specs.Datatype.Leaf.{atomic, enumeration, real}
 use Rattle.datatype.specs.Datatype.Datatype.{leaf}
 use Rattle.datatype.specs.Symbols.{onSome}
 use Rattle.datatype.specs.Leaves.{leafAt}
@@ -38,6 +38,7 @@ name-most (atomic l) = go (l .class)
     go Int = omega arith
     go Bits = omega arith
 name-most (enumeration l ss) = omega arith
+name-most (real l) = omega arith
 
 line-length : (b : ℕ) (x : Leaf) → length (leafLine b x) ≡ length (decimalOf b) + (1 + length (decimalOf (leafSize x))) + (1 + length (className x)) + 1
 line-length b x =

@@ -166,7 +166,9 @@ fn match_step(
         }
     } else if destination_byte != 0 {
         Walk::Off(z)
-    } else if COMPOUND <= from {
+    } else if from == COMPOUND {
+        Walk::Off(z)
+    } else if from == ARRAY {
         Walk::Off(z)
     } else {
         Walk::Same

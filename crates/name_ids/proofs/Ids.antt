@@ -72,11 +72,11 @@ ids-all before k w t j n wd td rows after h low high = let e : j ≡ n = omega a
 
 -- ---- names
 
-pub routes-more : (words : List ℕ) (i : ℕ) {x o : ℕ} → ((t : ℕ) → t < i → routeIn (getD words (wordsPlace t) 0) < 6) → Reads (getD words (wordsPlace i) 0) x → o ≡ routeIn x → o < 6
-    → (t : ℕ) → t < i + 1 → routeIn (getD words (wordsPlace t) 0) < 6
-routes-more words i all rx e h = below-more (λ (t : ℕ). routeIn (getD words (wordsPlace t) 0) < 6) i all (rw (← (rx .is), ← e) h)
+pub routes-more : (words : List ℕ) (i : ℕ) {x o : ℕ} → ((t : ℕ) → t < i → routeIn (getD words (wordsPlace t) 0) < 7) → Reads (getD words (wordsPlace i) 0) x → o ≡ routeIn x → o < 7
+    → (t : ℕ) → t < i + 1 → routeIn (getD words (wordsPlace t) 0) < 7
+routes-more words i all rx e h = below-more (λ (t : ℕ). routeIn (getD words (wordsPlace t) 0) < 7) i all (rw (← (rx .is), ← e) h)
 
-pub names-unwanted : (words : List ℕ) (n : ℕ) (ws ts wd td : List ℕ) → ((i : ℕ) → i < n → routeIn (getD words (wordsPlace i) 0) < 6) → NamesPut words n ws ts wd td words
+pub names-unwanted : (words : List ℕ) (n : ℕ) (ws ts wd td : List ℕ) → ((i : ℕ) → i < n → routeIn (getD words (wordsPlace i) 0) < 7) → NamesPut words n ws ts wd td words
 names-unwanted words n ws ts wd td none = record { names = λ i h many. absurd (omega (arith, none i h)); above = λ j h. refl; long = refl }
 
 pub names-put : (before : List ℕ) (n : ℕ) (ws ts wd td mid after : List ℕ) {r q : ℕ} → (r ≤ 256) × ((t : ℕ) → Covers ws t r) → (q ≤ 256) × ((t : ℕ) → Covers wd t q)

@@ -103,7 +103,7 @@ fn put_ids(
 // Whether the rows of no one of the entries are looked through.
 fn none_looked_up(words: &[u32], entries: usize) -> bool
     requires { ⌜ entries ≤ 4096 ⌝ }
-    ensures { λ r. ⌜ (r ≡ true → (i : ℕ) → i < entries → routeIn (getD (now (words .entry)) (wordsPlace i) 0) < 6) ⌝ }
+    ensures { λ r. ⌜ (r ≡ true → (i : ℕ) → i < entries → routeIn (getD (now (words .entry)) (wordsPlace i) 0) < 7) ⌝ }
 {
     let mut i: usize = 0;
     while i < entries {

@@ -30,3 +30,12 @@ pub const BELOW: u32 = 2;
 
 // The source has no symbol for the number, or the destination no number for the symbol.
 pub const NO_SYMBOL: u32 = 3;
+
+// The real is not a number.
+pub const NOT_A_NUMBER: u32 = 4;
+
+// The real's fraction, or the sign of its negative zero, was lost.
+pub const TRUNCATED: u32 = 5;
+
+// No double is the number: the nearest one stands for it.
+pub const ROUNDED: u32 = 6;

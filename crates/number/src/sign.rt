@@ -1,6 +1,7 @@
 // A number by its sign: from its bits, and apart into sign and distance.
 ghost use mathlib.Core.Path.{_≡_};
 ghost use Prim.Native.Nat.{_^_, _≤_, _<_};
+ghost use mathlib.Core.Bool.{true};
 ghost use lib.IntN.{pos, negsuc};
 ghost use Rattle.number.specs.Number.{valued};
 ghost use Rattle.number.specs.Parts.{meaning, signedBy};
@@ -40,8 +41,9 @@ fn parts_of(z: i64) -> Parts
     }
 }
 
-pub fn split(z: Number) -> Parts
-    ensures { λ r. ⌜ meaning z ≡ signedBy (r .negative) (r .distance) ⌝ }
+// A number apart: a negative one is at least -2^63.
+pub fn split_in_range(z: Number) -> Parts
+    ensures { λ r. ⌜ (meaning z ≡ signedBy (r .negative) (r .distance)) × (r .negative ≡ true → r .distance < 2 ^ 63) ⌝ }
 {
     match z {
         Number::Signed(z) => parts_of(z),
@@ -50,6 +52,12 @@ pub fn split(z: Number) -> Parts
             distance: n,
         },
     }
+}
+
+pub fn split(z: Number) -> Parts
+    ensures { λ r. ⌜ meaning z ≡ signedBy (r .negative) (r .distance) ⌝ }
+{
+    split_in_range(z)
 }
 
 pub fn number_of(signed: bool, precision: u32, raw: u64) -> Number

@@ -12,6 +12,7 @@ ghost use Rattle.plans.specs.PlanEntries.{EntryReady, raisingOf};
 use easy::at;
 use easy::convert_easy;
 use entry_code::GENERAL;
+use entry_code::REAL;
 use entry_code::SPAN;
 use entry_code::SPAN_LE;
 use entry_code::route_in;
@@ -25,6 +26,8 @@ use plans::ENTRY_WORDS;
 use plans::NAMES;
 use plans::PlanEntry;
 use plans::Raising;
+use real_leaf::convert_real;
+use real_leaf::real_kind;
 
 // Where the words of entry i begin.
 fn words_of(i: usize) -> usize
@@ -44,11 +47,24 @@ fn write_number(
     destination_half: &[u32],
     words: &[u32],
 ) -> u32
-    requires { ⌜ EntryReady (length (now src)) (length (now dst)) e i (now «source_half») (now «destination_half») (now words) × (i < 4096) × (routeIn (getD (now words) (wordsPlace i) 0) < 3) ⌝ }
+    requires { ⌜ EntryReady (length (now src)) (length (now dst)) e i (now «source_half») (now «destination_half») (now words) × (i < 4096) × (routeIn (getD (now words) (wordsPlace i) 0) < 4) ⌝ }
     ensures { λ r. ⌜ ((p : Pair (e .source) (e .destination) (now («source_half» .entry)) (now («destination_half» .entry)) (now (words .entry)) (wordsPlace i)) → (r ≡ pairBecomes p (e .from) (now (src .entry)) .kind) × (now (dst .exit) ≡ stored (layoutAt (now («destination_half» .entry)) (e .destination)) (e .to) (pairBecomes p (e .from) (now (src .entry)) .raw) (now (dst .entry)))) ⌝ }
 {
     let place = words_of(i);
-    if route_in(at(words, place)) != GENERAL {
+    let route = route_in(at(words, place));
+    if route == REAL {
+        return convert_real(
+            src,
+            dst,
+            e.to,
+            e.from,
+            e.source,
+            e.destination,
+            source_half,
+            destination_half,
+        );
+    }
+    if route != GENERAL {
         if 8 <= src.len() - e.from {
             convert_easy(src, dst, e.to, e.from, words, place);
             return 0;
@@ -76,7 +92,7 @@ fn write_enum(
     destination_half: &[u32],
     words: &[u32],
 ) -> u32
-    requires { ⌜ EntryReady (length (now src)) (length (now dst)) e i (now «source_half») (now «destination_half») (now words) × (i < 4096) × (3 ≤ routeIn (getD (now words) (wordsPlace i) 0)) ⌝ }
+    requires { ⌜ EntryReady (length (now src)) (length (now dst)) e i (now «source_half») (now «destination_half») (now words) × (i < 4096) × (4 ≤ routeIn (getD (now words) (wordsPlace i) 0)) ⌝ }
     ensures { λ r. ⌜ ((p : Pair (e .source) (e .destination) (now («source_half» .entry)) (now («destination_half» .entry)) (now (words .entry)) (wordsPlace i)) → (r ≡ pairBecomes p (e .from) (now (src .entry)) .kind) × (now (dst .exit) ≡ stored (layoutAt (now («destination_half» .entry)) (e .destination)) (e .to) (pairBecomes p (e .from) (now (src .entry)) .raw) (now (dst .entry)))) ⌝ }
 {
     let place = words_of(i);
@@ -142,6 +158,16 @@ fn entry_kind(
             destination_half,
             words,
             place,
+        );
+    }
+    if route == REAL {
+        return real_kind(
+            src,
+            e.from,
+            e.source,
+            e.destination,
+            source_half,
+            destination_half,
         );
     }
     if route != GENERAL {

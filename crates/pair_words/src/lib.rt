@@ -6,14 +6,16 @@ ghost use Rattle.layout.specs.Layout.{Valid};
 ghost use Rattle.table.specs.Table.{classWord, layoutAt};
 ghost use Rattle.table.specs.Records.{orderCode};
 ghost use Rattle.entry_code.specs.Code.{packed};
-ghost use Rattle.easy.specs.Easy.{shiftOf, easyWords, withWords};
-ghost use Rattle.plans.specs.PlanEntries.{PairFormed, EntryPut};
+ghost use Rattle.easy.specs.Easy.{shiftOf, withWords};
+ghost use Rattle.plans.specs.PlanWords.{oneReal};
+ghost use Rattle.plans.specs.PlanEntries.{PairFormed, plainWords, EntryPut};
 ghost use Rattle.plans.specs.Spans.{SpanWord, EntryRoom};
 use bits::bits_of;
 use easy::put_four;
 use easy::put_words;
 use easy::shift_of;
 use entry_code::LOOKED_UP;
+use entry_code::REAL;
 use entry_code::SPAN;
 use entry_code::SPAN_LE;
 use entry_code::pack;
@@ -30,7 +32,7 @@ use table::read::type_word;
 // The packed word of two enums that go by a span, where m has no bits beside its number.
 fn fast_word(l: Layout, m: Layout) -> u32
     requires { ⌜ Valid l × Valid m ⌝ }
-    ensures { λ r. ⌜ r ≡ packed (3 + orderCode (l .order)) (shiftOf (l .order) (l .size .0) (l .offset .0)) (l .precision) (m .size .0) (orderCode (m .order)) (m .precision) ⌝ }
+    ensures { λ r. ⌜ r ≡ packed (4 + orderCode (l .order)) (shiftOf (l .order) (l .size .0) (l .offset .0)) (l .precision) (m .size .0) (orderCode (m .order)) (m .precision) ⌝ }
 {
     let from = l.order;
     let to = m.order;
@@ -102,6 +104,24 @@ fn put_enum(
     free + count as usize
 }
 
+// Of the two types, one is a real and the other is none.
+fn is_one_real(
+    source_half: &[u32],
+    source_type: usize,
+    destination_half: &[u32],
+    destination_type: usize,
+) -> bool
+    ensures { λ r. ⌜ r ≡ oneReal (now («source_half» .entry)) «source_type» (now («destination_half» .entry)) «destination_type» ⌝ }
+{
+    let from = type_word(source_half, source_type, CLASS);
+    let to = type_word(destination_half, destination_type, CLASS);
+    if from == table::REAL {
+        to != table::REAL
+    } else {
+        to == table::REAL
+    }
+}
+
 // The words of an entry from the source type to a destination type that is no enum, from word `place` on.
 fn put_plain(
     words: &mut [u32],
@@ -112,8 +132,12 @@ fn put_plain(
     destination_half: &[u32],
 )
     requires { ⌜ place + 4 ≤ length (now words) ⌝ }
-    ensures { λ _. ⌜ now (words .exit) ≡ withWords (now (words .entry)) place (easyWords (layoutAt (now («source_half» .entry)) «source_type») (layoutAt (now («destination_half» .entry)) «destination_type»)) ⌝ }
+    ensures { λ _. ⌜ now (words .exit) ≡ withWords (now (words .entry)) place (plainWords (now («source_half» .entry)) «source_type» (now («destination_half» .entry)) «destination_type») ⌝ }
 {
+    if is_one_real(source_half, source_type, destination_half, destination_type) {
+        put_four(words, place, REAL as u32, 0, 0, 0);
+        return;
+    }
     let l = layout_at(source_half, source_type);
     put_words(
         words,

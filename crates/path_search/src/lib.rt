@@ -5,7 +5,7 @@ ghost use Prim.Native.Nat.{ℕ};
 ghost use Rattle.datatype.specs.Paths.{hasPath};
 ghost use Rattle.datatype.specs.WellFormed.{WellFormed};
 ghost use Rattle.table.specs.Table.{decode, typeAt};
-ghost use Rattle.paths.specs.Steps.{Turns, Inside};
+ghost use Rattle.paths.specs.Steps.{intAndReal, Turns, Inside};
 use paths::Inner;
 use paths::Turn;
 use paths::dimensions::same_dimensions;
@@ -16,11 +16,26 @@ use table::BASE;
 use table::COMPOUND;
 use table::FIRST;
 use table::Found;
+use table::INT;
 use table::MEMBER_TYPE;
 use table::MOST_TYPES;
+use table::REAL;
 use table::ROWS;
 use table::read::row_word;
 use table::read::type_word;
+
+// Of two kinds, one is int and the other real.
+fn int_and_real(from: usize, to: usize) -> bool
+    ensures { λ r. ⌜ r ≡ intAndReal from to ⌝ }
+{
+    if from == INT {
+        to == REAL
+    } else if from == REAL {
+        to == INT
+    } else {
+        false
+    }
+}
 
 fn path_turn(
     source_half: &[u32],
@@ -33,7 +48,7 @@ fn path_turn(
     let from = kind_at(source_half, source_type);
     let to = kind_at(destination_half, destination_type);
     if to != from {
-        return Turn::Answer(false);
+        return Turn::Answer(int_and_real(from, to));
     }
     if to == COMPOUND {
         return Turn::Lists;

@@ -11,7 +11,7 @@ use lib.Dec.{eqb}
 use lib.ListN.{getD, length, set, length-set}
 use lib.Seq.{getD-set-same, getD-set-other}
 use Rattle.datatype.specs.Datatype.{Leaf, leafSize, Datatype, size}
-use Rattle.datatype.specs.Datatype.Leaf.{atomic, enumeration}
+use Rattle.datatype.specs.Datatype.Leaf.{atomic, enumeration, real}
 use Rattle.datatype.specs.Datatype.Datatype.{leaf}
 use Rattle.datatype.specs.Matches.{Match, onMatch, matchAt}
 use Rattle.datatype.specs.Matches.Match.{unmatched, matched}
@@ -185,11 +185,13 @@ none-stepped S D b n none =
 
 leaf-size : (w t : List ℕ) (k : ℕ) → leafSize (leafOfType w t k) ≡ sizeWord w k
 unfolding leafOfType layoutAt
-leaf-size w t k = go (eqb (classWord w k) 2)
+leaf-size w t k = go (eqb (classWord w k) 2) (eqb (classWord w k) 5)
   where
-    go : (x : Bool) → leafSize (cond x (enumeration (layoutAt w k) (symbolsAt w t (firstWord w k) (rowsWord w k))) (atomic (layoutAt w k))) ≡ sizeWord w k
-    go true = refl
-    go false = refl
+    go : (x y : Bool) → leafSize (cond x (enumeration (layoutAt w k) (symbolsAt w t (firstWord w k) (rowsWord w k))) (cond y (real (layoutAt w k)) (atomic (layoutAt w k))))
+        ≡ sizeWord w k
+    go true y = refl
+    go false true = refl
+    go false false = refl
 
 pub step-matched : (wd : List ℕ) {m : Pair} {a s d r : ℕ} → m ≡ Matched a s d → Reads (sizeWord wd d) r → r ≡ stepOf wd m
 step-matched wd e hr = rw e (hr .is)

@@ -11,7 +11,7 @@ use borrow.Author.Tests.{ne-eqb, eqb-true, ltb-true}
 use Rattle.layout.specs.declared.Class.{Class}
 use Rattle.layout.specs.declared.Class.the-variants.{Int, Bits}
 use Rattle.datatype.specs.Datatype.{Leaf, Datatype}
-use Rattle.datatype.specs.Datatype.Leaf.{atomic, enumeration}
+use Rattle.datatype.specs.Datatype.Leaf.{atomic, enumeration, real}
 use Rattle.datatype.specs.Datatype.Datatype.{leaf, compound, array}
 use Rattle.datatype.specs.WellFormed.{CompoundSize, ArraySize, WellFormed, WellFormedIn}
 use Rattle.datatype.proofs.Matches.{size-some}
@@ -23,41 +23,53 @@ use Rattle.paths.specs.Steps.{Sized, Whole, kindOf, kindAt, membersOfTyp
 
 -- ---- kinds
 
-pub kind-low : (c : ℕ) → c < 5 → c ≡ kindOf c
+pub kind-low : (c : ℕ) → c < 6 → c ≡ kindOf c
 unfolding kindOf
 kind-low zero h = refl
 kind-low (suc zero) h = refl
 kind-low (suc (suc zero)) h = refl
 kind-low (suc (suc (suc zero))) h = refl
 kind-low (suc (suc (suc (suc zero)))) h = refl
-kind-low (suc (suc (suc (suc (suc c))))) h = absurd (omega arith)
+kind-low (suc (suc (suc (suc (suc zero))))) h = refl
+kind-low (suc (suc (suc (suc (suc (suc c)))))) h = absurd (omega arith)
 
-pub kind-high : (c : ℕ) → 5 ≤ c → 0 ≡ kindOf c
+pub kind-high : (c : ℕ) → 6 ≤ c → 0 ≡ kindOf c
 unfolding kindOf
-kind-high c h = rw (ne-eqb c 4 (λ e. omega arith), ne-eqb c 3 (λ e. omega arith), ne-eqb c 2 (λ e. omega arith), ne-eqb c 1 (λ e. omega arith))
+kind-high c h =
+    rw (
+      ne-eqb c 4 (λ e. omega arith),
+      ne-eqb c 3 (λ e. omega arith),
+      ne-eqb c 2 (λ e. omega arith),
+      ne-eqb c 5 (λ e. omega arith),
+      ne-eqb c 1 (λ e. omega arith),
+    )
 
 kind-is : (c k : ℕ) → 3 ≤ k → kindOf c ≡ k → c ≡ k
 unfolding kindOf
-kind-is c k h = go (eqb c 4) (eqb c 3) (eqb c 2) (eqb c 1) refl refl
+kind-is c k h = go (eqb c 4) (eqb c 3) (eqb c 2) (eqb c 5) (eqb c 1) refl refl refl
   where
-    go : (x y u v : Bool) → eqb c 4 ≡ x → eqb c 3 ≡ y → cond x 4 (cond y 3 (cond u 2 (cond v 1 0))) ≡ k → c ≡ k
-    go true y u v p q e = eqb-true c 4 p ∙ e
-    go false true u v p q e = eqb-true c 3 q ∙ e
-    go false false true v p q e = absurd (omega arith)
-    go false false false true p q e = absurd (omega arith)
-    go false false false false p q e = absurd (omega arith)
+    go : (x y u r v : Bool) → eqb c 4 ≡ x → eqb c 3 ≡ y → eqb c 5 ≡ r → cond x 4 (cond y 3 (cond u 2 (cond r 5 (cond v 1 0)))) ≡ k → c ≡ k
+    go true y u r v p q o e = eqb-true c 4 p ∙ e
+    go false true u r v p q o e = eqb-true c 3 q ∙ e
+    go false false true r v p q o e = absurd (omega arith)
+    go false false false true v p q o e = eqb-true c 5 o ∙ e
+    go false false false false true p q o e = absurd (omega arith)
+    go false false false false false p q o e = absurd (omega arith)
 
 abbrev pub leafKind : Leaf → ℕ
 leafKind (atomic l) = classCode (l .class)
 leafKind (enumeration l ss) = 2
+leafKind (real l) = 5
 
-class-low : (c : Class) → classCode c ≤ 2
+class-low : (c : Class) → classCode c ≤ 1
 class-low Int = omega arith
 class-low Bits = omega arith
 
-pub leaf-low : (x : Leaf) → leafKind x ≤ 2
-leaf-low (atomic l) = class-low (l .class)
-leaf-low (enumeration l ss) = omega arith
+-- no leaf has the kind of a compound or of an array
+pub leaf-kind : (x : Leaf) → (leafKind x ≡ 3 → ⊥) × (leafKind x ≡ 4 → ⊥)
+leaf-kind (atomic l) = (λ e. omega (arith, class-low (l .class)), λ e. omega (arith, class-low (l .class)))
+leaf-kind (enumeration l ss) = (λ e. omega arith, λ e. omega arith)
+leaf-kind (real l) = (λ e. omega arith, λ e. omega arith)
 
 abbrev pub treeKind : Datatype → ℕ
 treeKind (leaf x) = leafKind x
@@ -66,19 +78,20 @@ treeKind (array z ds T) = 4
 
 module _ (D : ℕ → Datatype) (w t : List ℕ) (i : ℕ) where
   pub tree-kind : treeKind (node D w t i) ≡ kindAt w i
-  unfolding node kindOf layoutAt
-  tree-kind = go (eqb (classWord w i) 4) (eqb (classWord w i) 3) (eqb (classWord w i) 2) (eqb (classWord w i) 1) refl
+  unfolding node leafOfType kindOf layoutAt
+  tree-kind = go (eqb (classWord w i) 4) (eqb (classWord w i) 3) (eqb (classWord w i) 2) (eqb (classWord w i) 5) (eqb (classWord w i) 1) refl
     where
-      go : (x y u v : Bool) → eqb (classWord w i) 1 ≡ v
+      go : (x y u r v : Bool) → eqb (classWord w i) 1 ≡ v
           → treeKind (cond x (array (sizeWord w i) (dimensionsAt w i) (D (baseWord w i)))
           (cond y (compound (sizeWord w i) (membersOfType D w t i))
-          (cond u (leaf (enumeration (layoutAt w i) (symbolsAt w t (firstWord w i) (rowsWord w i)))) (leaf (atomic (layoutAt w i))))))
-          ≡ cond x 4 (cond y 3 (cond u 2 (cond v 1 0)))
-      go true y u v e = refl
-      go false true u v e = refl
-      go false false true v e = refl
-      go false false false true e = rw e
-      go false false false false e = rw e
+          (leaf (cond u (enumeration (layoutAt w i) (symbolsAt w t (firstWord w i) (rowsWord w i))) (cond r (real (layoutAt w i)) (atomic (layoutAt w i)))))))
+          ≡ cond x 4 (cond y 3 (cond u 2 (cond r 5 (cond v 1 0))))
+      go true y u r v e = refl
+      go false true u r v e = refl
+      go false false true r v e = refl
+      go false false false true v e = refl
+      go false false false false true e = rw e
+      go false false false false false e = rw e
 
   pub compound-node : kindAt w i ≡ 3 → node D w t i ≡ compound (sizeWord w i) (membersOfType D w t i)
   compound-node e = node-compound D w t i (kind-is _ 3 (omega arith) e)
@@ -87,14 +100,8 @@ module _ (D : ℕ → Datatype) (w t : List ℕ) (i : ℕ) where
   array-node e = node-array D w t i (kind-is _ 4 (omega arith) e)
 
   pub leaf-node : (kindAt w i ≡ 3 → ⊥) → (kindAt w i ≡ 4 → ⊥) → node D w t i ≡ leaf (leafOfType w t i)
-  unfolding node leafOfType kindOf
-  leaf-node h k =
-      rw (ne-eqb (classWord w i) 4 (λ e. k (ap kindOf e)), ne-eqb (classWord w i) 3 (λ e. h (ap kindOf e))) (go (eqb (classWord w i) 2))
-    where
-      go : (u : Bool) → cond u (leaf (enumeration (layoutAt w i) (symbolsAt w t (firstWord w i) (rowsWord w i)))) (leaf (atomic (layoutAt w i)))
-          ≡ leaf (cond u (enumeration (layoutAt w i) (symbolsAt w t (firstWord w i) (rowsWord w i))) (atomic (layoutAt w i)))
-      go true = refl
-      go false = refl
+  unfolding node kindOf
+  leaf-node h k = rw (ne-eqb (classWord w i) 4 (λ e. k (ap kindOf e)), ne-eqb (classWord w i) 3 (λ e. h (ap kindOf e))) refl
 
 -- ---- levels
 

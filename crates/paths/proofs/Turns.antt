@@ -1,5 +1,5 @@
 -- How the question for a path follows from the words of two types, level by level. Assumes nothing.
-use mathlib.Core.Path.{_≡_, refl, sym, ap, _∙_}
+use mathlib.Core.Path.{_≡_, refl, sym, ap, ap₂, _∙_}
 use mathlib.Core.Bool.{Bool, true, false, not, _&&_}
 use mathlib.Core.List.{List}
 use Prim.Native.Nat.{ℕ, zero, suc, _+_, _-_, _≤_, _<_}
@@ -11,7 +11,7 @@ use Rattle.layout.specs.declared.Class.{Class}
 use Rattle.layout.specs.declared.Class.the-variants.{Int, Bits}
 use Rattle.layout.proofs.Edits.{fails, holds}
 use Rattle.datatype.specs.Datatype.{Leaf, Datatype, Members, same as sameDimensions}
-use Rattle.datatype.specs.Datatype.Leaf.{atomic, enumeration}
+use Rattle.datatype.specs.Datatype.Leaf.{atomic, enumeration, real}
 use Rattle.datatype.specs.Datatype.Datatype.{leaf, compound, array}
 use Rattle.datatype.specs.Paths.{sameClass, leafPath, Lookup, onFound, hasPath, pathsTo}
 use Rattle.datatype.specs.WellFormed.{WellFormed, WellFormedIn}
@@ -26,13 +26,14 @@ use Rattle.paths.specs.declared.Turn.{Turn}
 use Rattle.paths.specs.declared.Turn.the-variants.{Answer, Bases, Lists}
 use Rattle.paths.specs.declared.Inner.{Inner}
 use Rattle.paths.specs.declared.Inner.the-variants.{Both, Neither}
-use Rattle.paths.specs.Steps.{Whole, kindAt, membersOfType, Turned, Turns, pathNamed, innerAfter, Entered, Inside}
+use Rattle.paths.specs.Steps.{Whole, kindAt, membersOfType, intAndReal, Turned, Turns, pathNamed, innerAfter, Entered, Inside}
 use Rattle.paths.proofs.Shapes.{leafKind, treeKind, tree-kind, compound-node, array-node, decode-step, whole, formed-compound, formed-array}
 use Rattle.paths.proofs.Rows.{named-formed, row-formed}
 
 -- ---- by kinds
 
-class-differ : (c d : Class) → (classCode d ≡ classCode c → ⊥) → sameClass c d ≡ false
+class-differ : (c d : Class) → (classCode d ≡ classCode c → ⊥) → sameClass c d ≡ intAndReal (classCode c) (classCode d)
+unfolding intAndReal
 class-differ Int Int h = absurd (h refl)
 class-differ Int Bits h = refl
 class-differ Bits Int h = refl
@@ -48,23 +49,65 @@ class-atomic : (c : Class) → classCode c ≡ 2 → ⊥
 class-atomic Int e = omega arith
 class-atomic Bits e = omega arith
 
-leaf-differ : (x y : Leaf) → (leafKind y ≡ leafKind x → ⊥) → leafPath x y ≡ false
+class-real : (c : Class) → classCode c ≡ 5 → ⊥
+class-real Int e = omega arith
+class-real Bits e = omega arith
+
+-- nothing but an int and a real goes beside another kind
+class-enum : (c : Class) → false ≡ intAndReal (classCode c) 2
+unfolding intAndReal
+class-enum Int = refl
+class-enum Bits = refl
+
+to-real : (c : Class) → sameClass c Int ≡ intAndReal (classCode c) 5
+unfolding intAndReal
+to-real Int = refl
+to-real Bits = refl
+
+from-real : (c : Class) → sameClass Int c ≡ intAndReal 5 (classCode c)
+unfolding intAndReal
+from-real Int = refl
+from-real Bits = refl
+
+leaf-differ : (x y : Leaf) → (leafKind y ≡ leafKind x → ⊥) → leafPath x y ≡ intAndReal (leafKind x) (leafKind y)
+unfolding intAndReal
 leaf-differ (atomic l) (atomic k) h = class-differ (l .class) (k .class) h
-leaf-differ (atomic l) (enumeration k ts) h = refl
+leaf-differ (atomic l) (enumeration k ts) h = class-enum (l .class)
+leaf-differ (atomic l) (real k) h = to-real (l .class)
 leaf-differ (enumeration l ss) (atomic k) h = refl
 leaf-differ (enumeration l ss) (enumeration k ts) h = absurd (h refl)
+leaf-differ (enumeration l ss) (real k) h = refl
+leaf-differ (real l) (atomic k) h = from-real (k .class)
+leaf-differ (real l) (enumeration k ts) h = refl
+leaf-differ (real l) (real k) h = absurd (h refl)
 
 leaf-same : (x y : Leaf) → leafKind y ≡ leafKind x → leafPath x y ≡ true
 leaf-same (atomic l) (atomic k) e = class-same (l .class) (k .class) e
 leaf-same (atomic l) (enumeration k ts) e = absurd (class-atomic (l .class) (sym e))
 leaf-same (enumeration l ss) (atomic k) e = absurd (class-atomic (k .class) e)
 leaf-same (enumeration l ss) (enumeration k ts) e = refl
+leaf-same (atomic l) (real k) e = absurd (class-real (l .class) (sym e))
+leaf-same (enumeration l ss) (real k) e = absurd (omega arith)
+leaf-same (real l) (atomic k) e = absurd (class-real (k .class) e)
+leaf-same (real l) (enumeration k ts) e = absurd (omega arith)
+leaf-same (real l) (real k) e = refl
 
-path-differ : (S T : Datatype) → (treeKind T ≡ treeKind S → ⊥) → hasPath S T ≡ false
-unfolding hasPath
+class-outer : (c : Class) → (false ≡ intAndReal (classCode c) 3) × (false ≡ intAndReal (classCode c) 4)
+unfolding intAndReal
+class-outer Int = (refl, refl)
+class-outer Bits = (refl, refl)
+
+leaf-outer : (x : Leaf) → (false ≡ intAndReal (leafKind x) 3) × (false ≡ intAndReal (leafKind x) 4)
+unfolding intAndReal
+leaf-outer (atomic l) = class-outer (l .class)
+leaf-outer (enumeration l ss) = (refl, refl)
+leaf-outer (real l) = (refl, refl)
+
+path-differ : (S T : Datatype) → (treeKind T ≡ treeKind S → ⊥) → hasPath S T ≡ intAndReal (treeKind S) (treeKind T)
+unfolding hasPath intAndReal
 path-differ (leaf x) (leaf y) h = leaf-differ x y h
-path-differ (leaf x) (compound z ms) h = refl
-path-differ (leaf x) (array z ds T) h = refl
+path-differ (leaf x) (compound z ms) h = leaf-outer x .0
+path-differ (leaf x) (array z ds T) h = leaf-outer x .1
 path-differ (compound y ss) (leaf x) h = refl
 path-differ (compound y ss) (compound z ms) h = absurd (h refl)
 path-differ (compound y ss) (array z ds T) h = refl
@@ -83,10 +126,13 @@ path-leaves S (array z ds T) e h k = absurd (k refl)
 -- ---- one turn
 
 module _ (ws : List ℕ) (s : ℕ) (wd : List ℕ) (d : ℕ) {from to : ℕ} (hs : from ≡ kindAt ws s) (hd : to ≡ kindAt wd d) where
-  pub turn-differ : (to ≡ from → ⊥) → (ts td : List ℕ) → Turns ws ts s wd td d (Answer false)
-  turn-differ h ts td S D fs fd =
+  pub turn-differ : {a : Bool} → (to ≡ from → ⊥) → a ≡ intAndReal from to → (ts td : List ℕ) → Turns ws ts s wd td d (Answer a)
+  turn-differ h e ts td S D fs fd =
       record {
-        is = path-differ (node S ws ts s) (node D wd td d) (λ e. h (hd ∙ sym (tree-kind D wd td d) ∙ e ∙ tree-kind S ws ts s ∙ sym hs));
+        is =
+            path-differ (node S ws ts s) (node D wd td d) (λ e. h (hd ∙ sym (tree-kind D wd td d) ∙ e ∙ tree-kind S ws ts s ∙ sym hs))
+            ∙ ap₂ intAndReal (tree-kind S ws ts s ∙ sym hs) (tree-kind D wd td d ∙ sym hd)
+            ∙ sym e;
         onward = tt;
       }
 

@@ -30,7 +30,7 @@ use Rattle.paths.specs.declared.Walk.the-variants.{On, Same, Off}
 use Rattle.paths.specs.declared.Pair.the-variants.{Matched, Unmatched}
 use Rattle.paths.specs.Leaf.{leafOfType, MatchFound}
 use Rattle.paths.specs.Steps.{Sized, Whole, kindAt, covers, rowOver, rowEnd, GapEnd, membersOfType, Reaches, matchAfter, Led, Leads, matchNamed, LeadsIn}
-use Rattle.paths.proofs.Shapes.{leaf-low, treeKind, tree-kind, compound-node, array-node, leaf-node, decode-step, size-decode, whole, type-low, formed-compound, formed-array, element-some}
+use Rattle.paths.proofs.Shapes.{leafKind, leaf-kind, treeKind, tree-kind, compound-node, array-node, leaf-node, decode-step, size-decode, whole, type-low, formed-compound, formed-array, element-some}
 use Rattle.paths.proofs.Rows.{cond-push, over-covers, over-gap, over-formed, over-same, named-formed}
 
 -- ---- from a destination's row into a source compound
@@ -209,8 +209,8 @@ not-array (leaf x) ds h = refl
 not-array (compound z ms) ds h = refl
 not-array (array z es T) ds h = absurd (h refl)
 
-not-leaf : (T : Datatype) (y : Leaf) → 3 ≤ treeKind T → matchLeaf T y ≡ unmatched
-not-leaf (leaf x) y h = absurd (omega (arith, leaf-low x))
+not-leaf : (T : Datatype) (y : Leaf) → ((x : Leaf) → treeKind T ≡ leafKind x → ⊥) → matchLeaf T y ≡ unmatched
+not-leaf (leaf x) y h = absurd (h x refl)
 not-leaf (compound z ms) y h = refl
 not-leaf (array z ds T) y h = refl
 
@@ -241,24 +241,31 @@ module _ (ws ts : List ℕ) (s : ℕ) (wd td : List ℕ) (d b : ℕ) (here : b <
     pub off-late : (b ≡ 0 → ⊥) → Leads ws ts s wd td d b (Off z)
     off-late l = off (λ S D c m. to-leaf S D c ∙ rw (ne-eqb c 0 (λ e. l (omega arith))) refl)
 
-    pub off-inner : 3 ≤ from → Leads ws ts s wd td d b (Off z)
-    off-inner l = off (λ S D c m. to-leaf S D c ∙ none (not-leaf (node S ws ts s) (leafOfType wd td d) (omega (arith, tree-kind S ws ts s))) (eqb c 0))
+    off-inner : ((x : Leaf) → leafKind x ≡ from → ⊥) → Leads ws ts s wd td d b (Off z)
+    off-inner l = off (λ S D c m.
+        to-leaf S D c ∙ none (not-leaf (node S ws ts s) (leafOfType wd td d) (λ x e. l x (sym e ∙ tree-kind S ws ts s ∙ sym hs))) (eqb c 0))
       where
         none : {m : Match} → m ≡ unmatched → (t : Bool) → cond t m unmatched ≡ unmatched
         none e true = e
         none e false = refl
 
-    pub on-leaves : b ≡ 0 → from < 3 → Leads ws ts s wd td d b Same
-    on-leaves start l S D fs fd =
+    pub off-in-compound : from ≡ 3 → Leads ws ts s wd td d b (Off z)
+    off-in-compound e = off-inner (λ x q. leaf-kind x .0 (q ∙ e))
+
+    pub off-in-array : from ≡ 4 → Leads ws ts s wd td d b (Off z)
+    off-in-array e = off-inner (λ x q. leaf-kind x .1 (q ∙ e))
+
+    pub on-leaves : b ≡ 0 → (from ≡ 3 → ⊥) → (from ≡ 4 → ⊥) → Leads ws ts s wd td d b Same
+    on-leaves start no-compound no-array S D fs fd =
         record {
           is = λ j e. (
             omega arith,
-            rw (start, e) (to-leaf S D 0 ∙ rw (leaf-node S ws ts s (λ e. omega arith) (λ e. omega arith)) refl),
+            rw (start, e) (to-leaf S D 0 ∙ rw (leaf-node S ws ts s (λ e. no-compound (hs ∙ e)) (λ e. no-array (hs ∙ e))) refl),
           );
           onward = tt;
         }
 
-pub ruleset walk-laws = (needs, kind-known, off-compound, off-array, off-late, off-inner, on-leaves)
+pub ruleset walk-laws = (needs, kind-known, off-compound, off-array, off-late, off-in-compound, off-in-array, on-leaves)
 
 -- ---- one level after the other
 

@@ -1,18 +1,15 @@
 -- The leaves and the matches that type numbers stand for, of half a table w beside its text t.
 use mathlib.Core.Path.{_≡_}
-use mathlib.Core.Bool.{cond}
 use mathlib.Core.List.{List}
 use mathlib.Core.Option.{Option, none, some}
 use Prim.Native.Nat.{ℕ, _+_, _≤_, _<_}
-use lib.Dec.{eqb}
 use Rattle.datatype.specs.Datatype.{Leaf, Datatype, size}
-use Rattle.datatype.specs.Datatype.Leaf.{atomic, enumeration}
 use Rattle.datatype.specs.Matches.{Match, matchAt}
 use Rattle.datatype.specs.Matches.Match.{unmatched, matched}
-unfoldable pub use Rattle.plans.specs.PlanWords.{leafOfType}
+unfoldable pub use Rattle.table.specs.Table.{leafOfType}
 use Rattle.table.specs.declared.Found.{Found}
 use Rattle.table.specs.declared.Found.the-variants.{At, Missing}
-use Rattle.table.specs.Table.{classWord, firstWord, rowsWord, layoutAt, symbolsAt, typeAt}
+use Rattle.table.specs.Table.{typeAt}
 use Rattle.paths.specs.declared.Pair.{Pair}
 use Rattle.paths.specs.declared.Pair.the-variants.{Matched, Unmatched}
 

@@ -2,7 +2,7 @@
 use Prim.Native.Nat.{ℕ, zero, suc, _+_, _-_, _≤_, _<_}
 use mathlib.Core.Path.{_≡_}
 use mathlib.Core.List.{List}
-use mathlib.Core.Bool.{Bool, true, cond}
+use mathlib.Core.Bool.{Bool, true, false, cond}
 use mathlib.Core.Logic.{_⊎_}
 use mathlib.Core.Option.{Option, none, some}
 use lib.Dec.{eqb}
@@ -36,9 +36,9 @@ pub record Whole (D : ℕ → Datatype) (w t : List ℕ) (i : ℕ) : Type 0 wher
   pub sized : Sized D w
   pub formed : WellFormed (node D w t i)
 
--- 0 int, 1 bits, 2 enum, 3 compound, 4 array, by a class word
+-- 0 int, 1 bits, 2 enum, 3 compound, 4 array, 5 real, by a class word
 unfoldable pub kindOf : ℕ → ℕ
-kindOf c = cond (eqb c 4) 4 (cond (eqb c 3) 3 (cond (eqb c 2) 2 (cond (eqb c 1) 1 0)))
+kindOf c = cond (eqb c 4) 4 (cond (eqb c 3) 3 (cond (eqb c 2) 2 (cond (eqb c 5) 5 (cond (eqb c 1) 1 0))))
 
 abbrev pub kindAt : List ℕ → ℕ → ℕ
 kindAt w i = kindOf (classWord w i)
@@ -126,6 +126,10 @@ LeadsIn ws ts s wd td j b r =
     → Led S D x y (matchNamed D (membersOfType S ws ts s) wd td j) wd (rowEnd wd j) b r
 
 -- ---- paths
+
+-- of two kinds, one is int and the other real
+unfoldable pub intAndReal : ℕ → ℕ → Bool
+intAndReal from to = cond (eqb from 0) (eqb to 5) (cond (eqb from 5) (eqb to 0) false)
 
 -- what a turn leads to; ss and ds are the members here
 abbrev pub pathAfter : (ℕ → Datatype) → (ℕ → Datatype) → Members → Members → Turn → Bool

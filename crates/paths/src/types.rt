@@ -121,7 +121,7 @@ pub fn row_of_name(
     )
 }
 
-// The kind of a type: 0 int, 1 bits, 2 enum, 3 compound, 4 array.
+// The kind of a type: 0 int, 1 bits, 2 enum, 3 compound, 4 array, 5 real.
 pub fn kind_at(half: &[u32], type_number: usize) -> usize
     ensures { λ r. ⌜ r ≡ kindAt (now (half .entry)) «type_number» ⌝ }
 {

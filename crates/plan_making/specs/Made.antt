@@ -22,4 +22,4 @@ pub record Made (ss ws : List ℕ) (i : ℕ) (ds wd : List ℕ) (k : ℕ) (plan 
   pub most : n ≤ 4096
   pub long : wordsPlace n ≤ length words
   pub entry : (e : ℕ) → e < n → EntryWords words (wordsPlace e) ws ss wd ds (sourceType plan e) (destinationType plan e)
-  pub names : (e : ℕ) → e < n → 6 ≤ routeIn (getD words (wordsPlace e) 0) → NamesAt words ws ss wd ds
+  pub names : (e : ℕ) → e < n → 7 ≤ routeIn (getD words (wordsPlace e) 0) → NamesAt words ws ss wd ds

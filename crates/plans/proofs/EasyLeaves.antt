@@ -1,5 +1,6 @@
 -- What the route of an entry tells of its leaf: what the ways of converting it ask for, and what they give. Assumes nothing.
 use mathlib.Core.Path.{_≡_, refl, sym, ap, subst, _∙_}
+use mathlib.Core.Bool.{true, false}
 use mathlib.Core.List.{List}
 use Prim.Native.Nat.{ℕ, _+_, _-_, _≤_, _<_}
 use native.Mathlib.Nat.{mod-lt}
@@ -16,11 +17,11 @@ use Rattle.table.specs.Words.{Reads}
 use Rattle.entry_code.specs.Code.{routeIn}
 use Rattle.easy.specs.Words.{EasyAt}
 use Rattle.easy.proofs.Easy.{number}
-use Rattle.plans.specs.PlanWords.{wordsPlace, Pair, pairBecomes}
+use Rattle.plans.specs.PlanWords.{oneReal, wordsPlace, Pair, pairBecomes}
 use Rattle.plans.specs.PlanEntries.{EntryReady}
 use Rattle.plans.specs.declared.PlanEntry.{PlanEntry}
-use Rattle.plans.specs.LeafSteps.{EnumReady, EnumHere}
-use Rattle.plans.proofs.LeafSteps.{number-becomes, number-stored, pair-valid}
+use Rattle.plans.specs.LeafSteps.{EnumReady, EnumHere, realBecomes, RealReady}
+use Rattle.plans.proofs.LeafSteps.{number-becomes, real-becomes, number-stored, real-stored, real-ready, pair-valid}
 
 -- what the leaf of a pair became: the kind, and the bytes that were dst
 abbrev Became : ℕ → ℕ → List ℕ → List ℕ → List ℕ → ℕ → ℕ → ℕ → List ℕ → List ℕ → List ℕ → ℕ → Type 0
@@ -33,8 +34,14 @@ module _ {n m : ℕ} {e : PlanEntry} {i : ℕ} {ws wd words : List ℕ} (h : Ent
   pub route-is : routeIn (getD words (wordsPlace i) 0) ≡ o
   route-is = rw (← here, ← (first .is)) (sym (ro .0))
 
-  not-enum : o < 3 → classWord wd (e .destination) ≡ 2 → ⊥
+  not-enum : o < 4 → classWord wd (e .destination) ≡ 2 → ⊥
   not-enum low = h .pair .entry .plain (rw route-is low)
+
+  alike : o < 3 → oneReal ws (e .source) wd (e .destination) ≡ false
+  alike low = h .pair .entry .alike (rw route-is low)
+
+  mixed : o ≡ 3 → oneReal ws (e .source) wd (e .destination) ≡ true
+  mixed is = h .pair .entry .mixed (route-is ∙ is)
 
   easy-here : (o ≡ 0 → ⊥) → o < 3 → EasyAt (layoutAt ws (e .source)) (layoutAt wd (e .destination)) words (wordsPlace i)
   easy-here some low = h .pair .entry .easy (rw route-is (omega arith)) (rw route-is low)
@@ -52,30 +59,45 @@ module _ {n m : ℕ} {e : PlanEntry} {i : ℕ} {ws wd words : List ℕ} (h : Ent
         let l : Layout = layoutAt ws (e .source) in
         let at = easy-here some low in
         ap (λ (f : Fitted). f .kind) (number l (layoutAt wd (e .destination)) (at .is) (at .valid) (rawAt l (e .from) src) (mod-lt _ (pow-pos (l .precision))) .0)
-        ∙ ap (λ (f : Fitted). f .kind) (number-becomes p (not-enum low) (e .from) src)
+        ∙ ap (λ (f : Fitted). f .kind) (number-becomes p (not-enum (omega arith)) (alike low) (e .from) src)
 
     pub easy-became : (dst out : List ℕ)
         → out ≡ stored (layoutAt wd (e .destination)) (e .to) (fitted (layoutAt wd (e .destination)) (numberAt (layoutAt ws (e .source)) (e .from) src) .raw) dst
         → Became (e .source) (e .destination) ws wd words (wordsPlace i) (e .from) (e .to) src dst out 0
     easy-became dst out g p =
-        (easy-kind p, g ∙ ap (λ (f : Fitted). stored (layoutAt wd (e .destination)) (e .to) (f .raw) dst) (number-becomes p (not-enum low) (e .from) src))
+        (easy-kind p, g ∙ ap (λ (f : Fitted). stored (layoutAt wd (e .destination)) (e .to) (f .raw) dst) (number-becomes p (not-enum (omega arith)) (alike low) (e .from) src))
 
   -- any other number
   pub number-kind-is : o < 3 → (src : List ℕ) {kind : ℕ} → kind ≡ fitted (layoutAt wd (e .destination)) (numberAt (layoutAt ws (e .source)) (e .from) src) .kind
       → (p : Pair (e .source) (e .destination) ws wd words (wordsPlace i)) → kind ≡ pairBecomes p (e .from) src .kind
-  number-kind-is low src g p = g ∙ ap (λ (f : Fitted). f .kind) (number-becomes p (not-enum low) (e .from) src)
+  number-kind-is low src g p = g ∙ ap (λ (f : Fitted). f .kind) (number-becomes p (not-enum (omega arith)) (alike low) (e .from) src)
 
   pub number-became : o < 3 → (src dst out : List ℕ) {kind : ℕ}
       → (kind ≡ fitted (layoutAt wd (e .destination)) (numberAt (layoutAt ws (e .source)) (e .from) src) .kind)
       × (out ≡ stored (layoutAt wd (e .destination)) (e .to) (fitted (layoutAt wd (e .destination)) (numberAt (layoutAt ws (e .source)) (e .from) src) .raw) dst)
       → Became (e .source) (e .destination) ws wd words (wordsPlace i) (e .from) (e .to) src dst out kind
-  number-became low src dst out {kind} g = number-stored src dst out (e .from) (e .to) (e .source) (e .destination) kind ws wd words (wordsPlace i) (not-enum low) g
+  number-became low src dst out {kind} g = number-stored src dst out (e .from) (e .to) (e .source) (e .destination) kind ws wd words (wordsPlace i) (not-enum (omega arith)) (alike low) g
+
+  -- between a real and another leaf
+  pub real-asked : o ≡ 3 → RealReady n (e .from) (e .source) (e .destination) ws wd
+  real-asked is = real-ready n (e .from) (e .source) (e .destination) ws wd words (wordsPlace i) (h .pair) (mixed is) (h .read)
+
+  pub real-kind-is : o ≡ 3 → (src : List ℕ) {kind : ℕ} → kind ≡ realBecomes ws (e .source) wd (e .destination) (e .from) src .kind
+      → (p : Pair (e .source) (e .destination) ws wd words (wordsPlace i)) → kind ≡ pairBecomes p (e .from) src .kind
+  real-kind-is is src g p = g ∙ ap (λ (f : Fitted). f .kind) (real-becomes p (not-enum (omega arith)) (mixed is) (e .from) src)
+
+  pub real-became : o ≡ 3 → (src dst out : List ℕ) {kind : ℕ}
+      → (kind ≡ realBecomes ws (e .source) wd (e .destination) (e .from) src .kind)
+      × (out ≡ stored (layoutAt wd (e .destination)) (e .to) (realBecomes ws (e .source) wd (e .destination) (e .from) src .raw) dst)
+      → Became (e .source) (e .destination) ws wd words (wordsPlace i) (e .from) (e .to) src dst out kind
+  real-became is src dst out {kind} g =
+      real-stored src dst out (e .from) (e .to) (e .source) (e .destination) kind ws wd words (wordsPlace i) (not-enum (omega arith)) (mixed is) g
 
   -- an enum
-  pub enum-ready : 3 ≤ o → EnumReady n (e .from) (e .source) (e .destination) ws wd words k
+  pub enum-ready : 4 ≤ o → EnumReady n (e .from) (e .source) (e .destination) ws wd words k
   enum-ready high = rw here (record { pair = h .pair; read = h .read; room = h .room; enum = rw route-is high })
 
-  pub enum-here : 3 ≤ o → o < 5 → e .from + 8 ≤ n → EnumHere n m (e .to) (e .from) (e .source) (e .destination) ws wd words k
+  pub enum-here : 4 ≤ o → o < 6 → e .from + 8 ≤ n → EnumHere n m (e .to) (e .from) (e .source) (e .destination) ws wd words k
   enum-here high fast room = rw here (record { pair = h .pair; read = room; write = h .write; room = h .room; enum = rw route-is high; fast = rw route-is fast })
 
   pub enum-kind-is : (src : List ℕ) {kind : ℕ} → ((p : Pair (e .source) (e .destination) ws wd words k) → kind ≡ pairBecomes p (e .from) src .kind)

@@ -29,10 +29,10 @@ module _ (n m b a s d : ℕ) (ws wd words : List ℕ) (k : ℕ) (h : EnumHere n 
   v = at .source
 
   -- the numbers that the steps ask for
-  pub route-fits : {o : ℕ} → o ≡ routeIn x → (3 ≤ o) × (o < 5)
+  pub route-fits : {o : ℕ} → o ≡ routeIn x → (4 ≤ o) × (o < 6)
   route-fits e = rw (e, rx .is) (h .enum, h .fast)
 
-  pub window-fits : {o t p : ℕ} → o ≡ routeIn x → t ≡ shiftIn x → p ≡ precisionIn x → (a + 8 ≤ n) × (1 ≤ o + 1 - 3) × (t < 64) × (p ≤ 64)
+  pub window-fits : {o t p : ℕ} → o ≡ routeIn x → t ≡ shiftIn x → p ≡ precisionIn x → (a + 8 ≤ n) × (1 ≤ o + 1 - 4) × (t < 64) × (p ≤ 64)
   window-fits eo et ep =
       rw (et, ep, rx .is, at .shift, at .precision)
       (h .read, omega (arith, route-fits eo), shift-small (layoutAt ws s .order) (layoutAt ws s .size .0) (layoutAt ws s .offset .0) (layoutAt ws s .precision) (v .sized) (v .some) (v .inside), v .most)
@@ -48,13 +48,13 @@ module _ (n m b a s d : ℕ) (ws wd words : List ℕ) (k : ℕ) (h : EnumHere n 
 
 module _ (src dst : List ℕ) (b a s d : ℕ) (ws wd words : List ℕ) (k : ℕ) (h : EnumHere (length src) (length dst) b a s d ws wd words k) {x : ℕ} (rx : Reads (getD words k 0) x)
     (hb : Bytes src) {o t p raw : ℕ} (eo : o ≡ routeIn x) (et : t ≡ shiftIn x) (ep : p ≡ precisionIn x)
-    (eq : raw ≡ field t p (container (orderOf (o + 1 - 3 - 1)) (take 8 (drop a src)))) (low : raw < 2 ^ p) where
+    (eq : raw ≡ field t p (container (orderOf (o + 1 - 4 - 1)) (take 8 (drop a src)))) (low : raw < 2 ^ p) where
   here : EnumAt (layoutAt ws s) (layoutAt wd d) words k
   here = at (length src) (length dst) b a s d ws wd words k h rx
 
   raw-here : raw ≡ rawAt (layoutAt ws s) a src
   raw-here =
-      let e : 3 + orderCode (layoutAt ws s .order) + 1 - 3 - 1 ≡ 1 + orderCode (layoutAt ws s .order) - 1 = omega arith in
+      let e : 4 + orderCode (layoutAt ws s .order) + 1 - 4 - 1 ≡ 1 + orderCode (layoutAt ws s .order) - 1 = omega arith in
       eq ∙ rw (eo, et, ep, rx .is, here .order, here .shift, here .precision, e)
       (window-is (layoutAt ws s .order) (layoutAt ws s .size .0) (layoutAt ws s .offset .0) (layoutAt ws s .precision) a src (h .read) (here .source .sized) (here .source .inside) hb)
 

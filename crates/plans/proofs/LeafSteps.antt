@@ -1,17 +1,18 @@
 -- A leaf's number on its way through the words of a table, step by step. Assumes nothing.
 use mathlib.Core.Path.{_≡_, refl, sym, ap, subst, _∙_}
-use mathlib.Core.Bool.{Bool, true, false, cond}
+use mathlib.Core.Bool.{Bool, true, false, cond, not, false≢true}
 use mathlib.Core.List.{List}
 use mathlib.Core.Option.{none}
 use Prim.Native.Nat.{ℕ, zero, suc, _+_, _*_, _-_, _^_, _≤_, _<_}
-use native.Mathlib.Nat.{not-suc-le-zero}
+use native.Mathlib.Nat.{not-suc-le-zero, mod-lt}
 use native.Mathlib.Numerals.{add-one}
 use native.Mathlib.Omega.{arith}
 use lib.Dec.{eqb}
-use lib.IntN.{ℤ}
+use lib.IntN.{ℤ, pos}
 use lib.ListN.{length, getD}
+use lib.Pow.{pow-pos}
 use lib.Signed.{ltZ}
-use borrow.Author.Tests.{eq-eqb, ne-eqb, le-leb, lt-leb, lt-ltb, le-ltb}
+use borrow.Author.Tests.{eqb-true, eq-eqb, ne-eqb, le-leb, lt-leb, lt-ltb, le-ltb}
 use Rattle.layout.specs.declared.Layout.{Layout}
 use Rattle.layout.specs.Layout.{Valid}
 use Rattle.number.specs.declared.Number.{Number}
@@ -20,8 +21,10 @@ use Rattle.number.specs.declared.Fitted.{Fitted}
 use Rattle.number.specs.Number.{valued, numberAt, bitsOf, largest, smallest, fitted}
 use Rattle.number.specs.Place.{rawAt, stored}
 use Rattle.number.specs.Parts.{meaning, signedBy}
-use Rattle.datatype.specs.Datatype.{Symbol, layoutOf}
-use Rattle.datatype.specs.Datatype.Leaf.{atomic, enumeration}
+use Rattle.number.proofs.RoundTrip.{bits-back}
+use Rattle.reals.specs.Convert.{intToReal, realToInt}
+use Rattle.datatype.specs.Datatype.{Symbol, Leaf, layoutOf, binary64}
+use Rattle.datatype.specs.Datatype.Leaf.{atomic, enumeration, real}
 use Rattle.datatype.specs.Symbols.{onSome, numberOf}
 use Rattle.datatype.specs.WellFormed.{WellFormedLeaf, Symbols}
 use Rattle.datatype.proofs.Ways.{valid}
@@ -32,10 +35,10 @@ use Rattle.table.specs.Words.{Reads}
 use Rattle.table.specs.Rows.{rowNamed, rowNumbered, valueFound, nameFound}
 use Rattle.table.proofs.Lookups.{symbol-named, symbol-numbered}
 use Rattle.entry_code.specs.Code.{routeIn}
-use Rattle.records.specs.Leaf.{numberIn, symbols, untranslated, converted}
-use Rattle.records.proofs.OneLeaf.{converted-lt, listed-in-range}
-use Rattle.plans.specs.PlanWords.{leafOfType, symbolRows, numberRow, rowCode, namedCode, translatedCode, spanCode, rowAlike, Pair, pairBecomes}
-use Rattle.plans.specs.LeafSteps.{allOnes, codeBits, lookedCode, EnumReady}
+use Rattle.records.specs.Leaf.{numberIn, symbols, untranslated, realBits, converted}
+use Rattle.records.proofs.OneLeaf.{read-in-range, converted-lt, listed-in-range}
+use Rattle.plans.specs.PlanWords.{leafOfType, symbolRows, numberRow, rowCode, namedCode, translatedCode, isReal, oneReal, spanCode, rowAlike, Pair, pairBecomes}
+use Rattle.plans.specs.LeafSteps.{allOnes, codeBits, lookedCode, EnumReady, realBecomes, RealReady}
 use Rattle.plans.proofs.Names.{looked-named}
 
 -- ---- the words of a row
@@ -72,27 +75,34 @@ symbols-none w k rc not = (rw (ne-eqb (classWord w k) 2 (λ e. not (rc .is ∙ e
 
 pub leaf-layout : (w t : List ℕ) (k : ℕ) → layoutOf (leafOfType w t k) ≡ layoutAt w k
 unfolding leafOfType
-leaf-layout w t k = go (eqb (classWord w k) 2)
+leaf-layout w t k = go (eqb (classWord w k) 2) (isReal w k)
   where
-    go : (b : Bool) → layoutOf (cond b (enumeration (layoutAt w k) (symbolsAt w t (firstWord w k) (rowsWord w k))) (atomic (layoutAt w k))) ≡ layoutAt w k
-    go true = refl
-    go false = refl
+    go : (b c : Bool) → layoutOf (cond b (enumeration (layoutAt w k) (symbolsAt w t (firstWord w k) (rowsWord w k))) (cond c (real (layoutAt w k)) (atomic (layoutAt w k)))) ≡ layoutAt w k
+    go true c = refl
+    go false true = refl
+    go false false = refl
 
 leaf-symbols : (w t : List ℕ) (k : ℕ) → symbols (leafOfType w t k) ≡ symbolsAt w t (firstWord w k) (symbolRows w k)
 unfolding leafOfType symbolRows symbolsAt
-leaf-symbols w t k = go (eqb (classWord w k) 2)
+leaf-symbols w t k = go (eqb (classWord w k) 2) (isReal w k)
   where
-    go : (b : Bool) → symbols (cond b (enumeration (layoutAt w k) (symbolsAt w t (firstWord w k) (rowsWord w k))) (atomic (layoutAt w k))) ≡ symbolsAt w t (firstWord w k) (cond b (rowsWord w k) 0)
-    go true = refl
-    go false = refl
+    go : (b c : Bool) → symbols (cond b (enumeration (layoutAt w k) (symbolsAt w t (firstWord w k) (rowsWord w k))) (cond c (real (layoutAt w k)) (atomic (layoutAt w k))))
+        ≡ symbolsAt w t (firstWord w k) (cond b (rowsWord w k) 0)
+    go true c = refl
+    go false true = refl
+    go false false = refl
 
 pub leaf-enum : (w t : List ℕ) (k : ℕ) → classWord w k ≡ 2 → leafOfType w t k ≡ enumeration (layoutAt w k) (symbolsAt w t (firstWord w k) (rowsWord w k))
 unfolding leafOfType
 leaf-enum w t k e = rw (eq-eqb (classWord w k) 2 e)
 
-pub leaf-plain : (w t : List ℕ) (k : ℕ) → (classWord w k ≡ 2 → ⊥) → leafOfType w t k ≡ atomic (layoutAt w k)
+pub leaf-real : (w t : List ℕ) (k : ℕ) → isReal w k ≡ true → leafOfType w t k ≡ real (layoutAt w k)
 unfolding leafOfType
-leaf-plain w t k not = rw (ne-eqb (classWord w k) 2 not)
+leaf-real w t k e = rw (eqb-true (classWord w k) 5 e)
+
+pub leaf-plain : (w t : List ℕ) (k : ℕ) → (classWord w k ≡ 2 → ⊥) → isReal w k ≡ false → leafOfType w t k ≡ atomic (layoutAt w k)
+unfolding leafOfType
+leaf-plain w t k not e = rw (ne-eqb (classWord w k) 2 not, e)
 
 pub leaf-valid : (w t : List ℕ) (k : ℕ) → WellFormedLeaf (leafOfType w t k) → Valid (layoutAt w k)
 leaf-valid w t k f = subst Valid (leaf-layout w t k) (valid (leafOfType w t k) f)
@@ -203,11 +213,11 @@ module _ (s d : ℕ) (ws wd words : List ℕ) (k raw : ℕ) {x o : ℕ} (rx : Re
   route-is : o ≡ routeIn (getD words k 0)
   route-is = ro ∙ ap routeIn (rx .is)
 
-  pub spanned : {code : ℕ} → raw < 2 ^ layoutAt ws s .precision → 3 ≤ routeIn (getD words k 0) → o < 6 → code ≡ spanCode words k raw
+  pub spanned : {code : ℕ} → raw < 2 ^ layoutAt ws s .precision → 4 ≤ routeIn (getD words k 0) → o < 7 → code ≡ spanCode words k raw
       → (p : Pair s d ws wd words k) → code ≡ translatedCode ws (p .sourceText) wd (p .destinationText) s d raw
   spanned low enum few h p = h ∙ p .entry .span enum (rw (← route-is) few) .is raw low
 
-  pub looked-up : {code : ℕ} {l : Layout} (n : Number) (z : Parts) → 6 ≤ o → l ≡ layoutAt ws s → meaning n ≡ valued (l .signed) (l .precision) raw
+  pub looked-up : {code : ℕ} {l : Layout} (n : Number) (z : Parts) → 7 ≤ o → l ≡ layoutAt ws s → meaning n ≡ valued (l .signed) (l .precision) raw
       → meaning n ≡ signedBy (z .negative) (z .distance) → code ≡ lookedCode words ws wd s d (signedBy (z .negative) (z .distance))
       → (p : Pair s d ws wd words k) → code ≡ translatedCode ws (p .sourceText) wd (p .destinationText) s d raw
   unfolding translatedCode numberRow
@@ -230,7 +240,7 @@ Becomes src a s d ws wd words k r = ((p : Pair s d ws wd words k) → r ≡ pair
 becomes-lt : (src : List ℕ) (a s d : ℕ) (ws wd words : List ℕ) (k : ℕ) (r : Fitted) → Pair s d ws wd words k → ((p : Pair s d ws wd words k) → r ≡ pairBecomes p a src)
     → Becomes src a s d ws wd words k r
 becomes-lt src a s d ws wd words k r p h =
-    (h, rw (h p, ← (leaf-layout wd (p .destinationText) d)) (converted-lt (leafOfType ws (p .sourceText) s) (leafOfType wd (p .destinationText) d) (numberIn (leafOfType ws (p .sourceText) s) a src) (p .destination)))
+    (h, rw (h p, ← (leaf-layout wd (p .destinationText) d)) (converted-lt (leafOfType ws (p .sourceText) s) (leafOfType wd (p .destinationText) d) (numberIn (leafOfType ws (p .sourceText) s) a src) (p .source) (p .destination) (read-in-range (leafOfType ws (p .sourceText) s) a src (p .source))))
 
 module _ (n a s d : ℕ) (ws wd words : List ℕ) (k : ℕ) (ready : EnumReady n a s d ws wd words k) where
   pub enum-source : {l : Layout} → l ≡ layoutAt ws s → Valid l × (a + l .size .0 ≤ n)
@@ -257,13 +267,95 @@ module _ (src : List ℕ) (a s d : ℕ) (ws wd words : List ℕ) (k : ℕ) (read
       let e : code ≡ suc (code - 1) = omega arith in
       ap (λ (t : Fitted). t .kind) (rw e at (bits-become p))
 
--- a leaf that is no enum
-pub number-becomes : {s d : ℕ} {ws wd words : List ℕ} {k : ℕ} (p : Pair s d ws wd words k) → (classWord wd d ≡ 2 → ⊥) → (a : ℕ) (src : List ℕ)
+-- ---- a number that becomes a number, and a real that becomes a real
+
+one-real-cases : (a b : Bool) → cond a (not b) b ≡ false → a ≡ b
+one-real-cases true true e = refl
+one-real-cases true false e = absurd (false≢true (sym e))
+one-real-cases false true e = absurd (false≢true (sym e))
+one-real-cases false false e = refl
+
+-- a leaf that is no real gives its number
+plain-gives : (ws ts : List ℕ) (s : ℕ) → isReal ws s ≡ false → (l : Layout) (z : ℤ) → (converted (leafOfType ws ts s) (atomic l) z ≡ fitted l z) × (converted (leafOfType ws ts s) (real l) z ≡ intToReal z)
+unfolding leafOfType
+plain-gives ws ts s e l z = rw e (go (eqb (classWord ws s) 2))
+  where
+    go : (b : Bool) → let x = cond b (enumeration (layoutAt ws s) (symbolsAt ws ts (firstWord ws s) (rowsWord ws s))) (atomic (layoutAt ws s)) in
+        (converted x (atomic l) z ≡ fitted l z) × (converted x (real l) z ≡ intToReal z)
+    go true = (refl, refl)
+    go false = (refl, refl)
+
+-- a real has the layout of 64 bits
+real-formed : (w t : List ℕ) (k : ℕ) → isReal w k ≡ true → WellFormedLeaf (leafOfType w t k) → layoutAt w k ≡ binary64 (layoutAt w k .order)
+real-formed w t k e f = subst WellFormedLeaf (leaf-real w t k e) f
+
+-- the number of a real is its bits, and fits any real
+real-number : (l : Layout) (a : ℕ) (src : List ℕ) → l ≡ binary64 (l .order) → numberAt l a src ≡ pos (rawAt l a src)
+real-number l a src f = ap (λ (m : Layout). valued (m .signed) (m .precision) (rawAt l a src)) f
+
+real-kept : (l k : Layout) (a : ℕ) (src : List ℕ) → l ≡ binary64 (l .order) → k ≡ binary64 (k .order)
+    → fitted k (numberAt l a src) ≡ record { raw = realBits (numberAt l a src); kind = 0 }
+real-kept l k a src f g =
+    let low : rawAt l a src < 2 ^ 64 = subst (λ (q : ℕ). rawAt l a src < 2 ^ q) (ap (λ (m : Layout). m .precision) f) (mod-lt _ (pow-pos (l .precision))) in
+    rw (real-number l a src f) (ap (λ (m : Layout). fitted m (pos (rawAt l a src))) g ∙ bits-back false 64 (rawAt l a src) (omega arith) low)
+
+-- a leaf that is no enum, where both are reals or neither is
+pub number-becomes : {s d : ℕ} {ws wd words : List ℕ} {k : ℕ} (p : Pair s d ws wd words k) → (classWord wd d ≡ 2 → ⊥) → oneReal ws s wd d ≡ false → (a : ℕ) (src : List ℕ)
     → fitted (layoutAt wd d) (numberAt (layoutAt ws s) a src) ≡ pairBecomes p a src
-number-becomes {s} {d} {ws} {wd} p not a src = rw (leaf-plain wd (p .destinationText) d not, leaf-layout ws (p .sourceText) s)
+unfolding oneReal
+number-becomes {s} {d} {ws} {wd} p not-enum alike a src = go (isReal wd d) refl
+  where
+    ts : List ℕ
+    ts = p .sourceText
+
+    td : List ℕ
+    td = p .destinationText
+
+    same : isReal ws s ≡ isReal wd d
+    same = one-real-cases (isReal ws s) (isReal wd d) alike
+
+    go : (b : Bool) → isReal wd d ≡ b → fitted (layoutAt wd d) (numberAt (layoutAt ws s) a src) ≡ pairBecomes p a src
+    go true e =
+        let f : isReal ws s ≡ true = same ∙ e in
+        real-kept (layoutAt ws s) (layoutAt wd d) a src (real-formed ws ts s f (p .source)) (real-formed wd td d e (p .destination))
+        ∙ rw (leaf-real ws ts s f, leaf-real wd td d e)
+    go false e =
+        rw (leaf-plain wd td d not-enum e, leaf-layout ws ts s) (sym (plain-gives ws ts s (same ∙ e) (layoutAt wd d) (numberAt (layoutAt ws s) a src) .0))
+
+-- ---- between a real and another leaf
+
+pub real-becomes : {s d : ℕ} {ws wd words : List ℕ} {k : ℕ} (p : Pair s d ws wd words k) → (classWord wd d ≡ 2 → ⊥) → oneReal ws s wd d ≡ true → (a : ℕ) (src : List ℕ)
+    → realBecomes ws s wd d a src ≡ pairBecomes p a src
+unfolding oneReal realBecomes
+real-becomes {s} {d} {ws} {wd} p not-enum mixed a src = go (isReal ws s) (isReal wd d) refl refl mixed
+  where
+    ts : List ℕ
+    ts = p .sourceText
+
+    td : List ℕ
+    td = p .destinationText
+
+    go : (b c : Bool) → isReal ws s ≡ b → isReal wd d ≡ c → cond b (not c) c ≡ true
+        → cond b (realToInt (layoutAt wd d) (rawAt (layoutAt ws s) a src)) (intToReal (numberAt (layoutAt ws s) a src)) ≡ pairBecomes p a src
+    go true true e f m = absurd (false≢true m)
+    go true false e f m =
+        rw (leaf-real ws ts s e, leaf-plain wd td d not-enum f) (ap (λ (z : ℤ). realToInt (layoutAt wd d) (realBits z)) (sym (real-number (layoutAt ws s) a src (real-formed ws ts s e (p .source)))))
+    go false true e f m = rw (leaf-real wd td d f, leaf-layout ws ts s) (sym (plain-gives ws ts s e (layoutAt wd d) (numberAt (layoutAt ws s) a src) .1))
+    go false false e f m = absurd (false≢true m)
 
 pub pair-valid : {s d : ℕ} {ws wd words : List ℕ} {k : ℕ} → Pair s d ws wd words k → Valid (layoutAt ws s) × Valid (layoutAt wd d)
 pair-valid {s} {d} {ws} {wd} p = (leaf-valid ws (p .sourceText) s (p .source), leaf-valid wd (p .destinationText) d (p .destination))
+
+-- what a leaf's function asks for between a real and another leaf
+pub real-ready : (n a s d : ℕ) (ws wd words : List ℕ) (k : ℕ) → Pair s d ws wd words k → oneReal ws s wd d ≡ true → a + layoutAt ws s .size .0 ≤ n → RealReady n a s d ws wd
+unfolding oneReal
+real-ready n a s d ws wd words k p mixed h =
+    record {
+      source = pair-valid p .0;
+      destination = pair-valid p .1;
+      read = h;
+      real = λ e. ap (λ (m : Layout). m .precision) (real-formed wd (p .destinationText) d (rw e at mixed) (p .destination));
+    }
 
 -- ---- what is stored
 
@@ -277,7 +369,13 @@ pub leaf-stored : (src dst out : List ℕ) (a b s d : ℕ) (ws wd words : List �
 leaf-stored src dst out a b s d ws wd words k {l} {f} h e g p = (ap (λ (t : Fitted). t .kind) (h .0 p), g ∙ rw (e, h .0 p))
 
 -- what was promised of a number, as the pair's
-pub number-stored : (src dst out : List ℕ) (a b s d kind : ℕ) (ws wd words : List ℕ) (k : ℕ) → (classWord wd d ≡ 2 → ⊥)
+pub number-stored : (src dst out : List ℕ) (a b s d kind : ℕ) (ws wd words : List ℕ) (k : ℕ) → (classWord wd d ≡ 2 → ⊥) → oneReal ws s wd d ≡ false
     → (kind ≡ fitted (layoutAt wd d) (numberAt (layoutAt ws s) a src) .kind) × (out ≡ stored (layoutAt wd d) b (fitted (layoutAt wd d) (numberAt (layoutAt ws s) a src) .raw) dst)
     → (p : Pair s d ws wd words k) → (kind ≡ pairBecomes p a src .kind) × (out ≡ stored (layoutAt wd d) b (pairBecomes p a src .raw) dst)
-number-stored src dst out a b s d kind ws wd words k not h p = rw (number-becomes p not a src) at h
+number-stored src dst out a b s d kind ws wd words k not-enum alike h p = rw (number-becomes p not-enum alike a src) at h
+
+-- and of a number between a real and another leaf
+pub real-stored : (src dst out : List ℕ) (a b s d kind : ℕ) (ws wd words : List ℕ) (k : ℕ) → (classWord wd d ≡ 2 → ⊥) → oneReal ws s wd d ≡ true
+    → (kind ≡ realBecomes ws s wd d a src .kind) × (out ≡ stored (layoutAt wd d) b (realBecomes ws s wd d a src .raw) dst)
+    → (p : Pair s d ws wd words k) → (kind ≡ pairBecomes p a src .kind) × (out ≡ stored (layoutAt wd d) b (pairBecomes p a src .raw) dst)
+real-stored src dst out a b s d kind ws wd words k not-enum mixed h p = rw (real-becomes p not-enum mixed a src) at h

@@ -1,6 +1,6 @@
 -- The rows of enums by significant bits, and the spans in which they stand. Assumes nothing.
 use mathlib.Core.Path.{_≡_, refl, sym, ap, subst, _∙_}
-use mathlib.Core.Bool.{Bool, true, false, cond, _&&_, false≢true}
+use mathlib.Core.Bool.{Bool, true, false, cond, not, _&&_, false≢true}
 use mathlib.Core.Logic.{⊎-elim}
 use mathlib.Core.List.{List, [], _∷_}
 use Prim.Native.Nat.{ℕ, zero, suc, _+_, _*_, _-_, _^_, _≤_, _<_, min, max}
@@ -12,7 +12,7 @@ use lib.IntN.{ℤ}
 use lib.ListN.{length, getD, set, length-set, replicate}
 use lib.Seq.{getD-set-same, getD-set-other}
 use borrow.Author.Count.{below-more}
-use borrow.Author.Tests.{eqb-true, leb-true, ltb-true, le-leb, lt-ltb}
+use borrow.Author.Tests.{eqb-true, eq-eqb, ne-eqb, leb-true, ltb-true, le-leb, lt-ltb}
 use Rattle.layout.specs.declared.Layout.{Layout}
 use Rattle.layout.specs.Layout.{valid, Valid}
 use Rattle.number.specs.declared.Number.{Number}
@@ -36,8 +36,8 @@ use Rattle.entry_code.proofs.Packed.{route-back, shift-back, precision-back, si
 use Rattle.easy.specs.Easy.{easy, shiftOf, easyWords, withWords, wordsOf}
 use Rattle.easy.proofs.Easy.{shift-small, order-small}
 use Rattle.easy.proofs.Words.{words-length, words-below, words-above, words-at, easy-stands, easy-route}
-use Rattle.plans.specs.PlanWords.{RowsWithin, symbolRows, numberRow, rowCode, namedCode, translatedCode, sourceType, destinationType, wordsPlace, spanCode, EnumAt}
-use Rattle.plans.specs.PlanEntries.{PairFormed, Standing, EntryPut}
+use Rattle.plans.specs.PlanWords.{RowsWithin, symbolRows, numberRow, rowCode, namedCode, translatedCode, sourceType, destinationType, wordsPlace, oneReal, spanCode, EnumAt}
+use Rattle.plans.specs.PlanEntries.{PairFormed, plainWords, Standing, EntryPut}
 use Rattle.plans.specs.Spans.{RowsIn, SymbolsFormed, SpanOf, SpanPut, SpanWord, EntryRoom, AllStanding}
 use Rattle.plans.proofs.Names.{numbered-within, named-within}
 use Rattle.plans.proofs.LeafSteps.{leaf-enum, leaf-valid, inside-bits}
@@ -240,6 +240,8 @@ module _ (v w : List ℕ) (k h start free : ℕ) (same : (q : ℕ) → q < 4 →
         entry =
             record {
               plain = λ low. x .entry .plain (rw first at low);
+              alike = λ low. x .entry .alike (rw first at low);
+              mixed = λ is. x .entry .mixed (rw first at is);
               easy = λ some low. rw (first, same 1 (omega arith), same 2 (omega arith)) (x .entry .easy (rw first at some) (rw first at low));
               enum = λ high. x .entry .enum (rw first at high);
               fast = λ high low. enum-moved (layoutAt ws s) (layoutAt wd d) v w k h first (x .entry .fast (rw first at high) (rw first at low));
@@ -276,10 +278,19 @@ easy-four l m = go (valid l && (valid m && easy l m))
     go true = refl
     go false = refl
 
--- a destination that is no enum
-pub put-plain : (before : List ℕ) (k free : ℕ) (ws ts wd td : List ℕ) (s d : ℕ) {after : List ℕ} {c : ℕ} → EntryRoom (length before) k free → Reads (classWord wd d) c → (c ≡ 2 → ⊥)
+-- one of two types is a real, by their classes
+pub one-from : (ws : List ℕ) (s : ℕ) (wd : List ℕ) (d : ℕ) {from to : ℕ} → Reads (classWord ws s) from → Reads (classWord wd d) to → from ≡ 5 → not (eqb to 5) ≡ oneReal ws s wd d
+unfolding oneReal
+one-from ws s wd d rf rt e = rw (← (rf .is), ← (rt .is), eq-eqb _ 5 e)
+
+pub one-to : (ws : List ℕ) (s : ℕ) (wd : List ℕ) (d : ℕ) {from to : ℕ} → Reads (classWord ws s) from → Reads (classWord wd d) to → (from ≡ 5 → ⊥) → eqb to 5 ≡ oneReal ws s wd d
+unfolding oneReal
+one-to ws s wd d rf rt e = rw (← (rf .is), ← (rt .is), ne-eqb _ 5 e)
+
+-- two leaves of one kind, or an int beside bits, none an enum
+put-alike : (before : List ℕ) (k free : ℕ) (ws ts wd td : List ℕ) (s d : ℕ) {after : List ℕ} → EntryRoom (length before) k free → (classWord wd d ≡ 2 → ⊥) → oneReal ws s wd d ≡ false
     → after ≡ withWords before k (easyWords (layoutAt ws s) (layoutAt wd d)) → EntryPut before k free free ws ts wd td s d after free
-put-plain before k free ws ts wd td s d room rc not h =
+put-alike before k free ws ts wd td s d room not alike h =
     let fits : k + 4 ≤ length before = omega (arith, room .before, room .within) in
     let route = easy-route (layoutAt ws s) (layoutAt wd d) before k fits in
     rw h (record {
@@ -287,7 +298,9 @@ put-plain before k free ws ts wd td s d room rc not h =
           record {
             entry =
                 record {
-                  plain = λ low is. not (rc .is ∙ is);
+                  plain = λ low. not;
+                  alike = λ low. alike;
+                  mixed = λ is. absurd (omega (arith, route));
                   easy = λ some low. easy-stands (layoutAt ws s) (layoutAt wd d) before k fits (λ z. omega (arith, z));
                   enum = λ high. absurd (omega (arith, route));
                   fast = λ high low. absurd (omega (arith, route));
@@ -301,19 +314,63 @@ put-plain before k free ws ts wd td s d room rc not h =
       long = words-length (easyWords (layoutAt ws s) (layoutAt wd d)) before k;
     })
 
+-- a real and another leaf
+put-mixed : (before : List ℕ) (k free : ℕ) (ws ts wd td : List ℕ) (s d : ℕ) {after : List ℕ} → EntryRoom (length before) k free → (classWord wd d ≡ 2 → ⊥) → oneReal ws s wd d ≡ true
+    → after ≡ withWords before k (3 ∷ 0 ∷ 0 ∷ 0 ∷ []) → EntryPut before k free free ws ts wd td s d after free
+unfolding routeIn
+put-mixed before k free ws ts wd td s d room not mixed h =
+    let fits : k + 4 ≤ length before = omega (arith, room .before, room .within) in
+    let route : routeIn (getD (withWords before k (3 ∷ 0 ∷ 0 ∷ 0 ∷ [])) k 0) ≡ 3 = rw (put-first before 3 (0 ∷ 0 ∷ 0 ∷ []) k refl fits) in
+    rw h (record {
+      here =
+          record {
+            entry =
+                record {
+                  plain = λ low. not;
+                  alike = λ low. absurd (omega (arith, route));
+                  mixed = λ is. mixed;
+                  easy = λ some low. absurd (omega (arith, route));
+                  enum = λ high. absurd (omega (arith, route));
+                  fast = λ high low. absurd (omega (arith, route));
+                  span = λ high low. absurd (omega (arith, route));
+                };
+            bounds = λ high low. absurd (omega (arith, route));
+          };
+      grows = le-refl free;
+      below = λ j low. words-below (3 ∷ 0 ∷ 0 ∷ 0 ∷ []) before k j low;
+      between = λ j high low. words-above (3 ∷ 0 ∷ 0 ∷ 0 ∷ []) before k j high;
+      long = words-length (3 ∷ 0 ∷ 0 ∷ 0 ∷ []) before k;
+    })
+
+-- a destination that is no enum
+pub put-plain : (before : List ℕ) (k free : ℕ) (ws ts wd td : List ℕ) (s d : ℕ) {after : List ℕ} {c : ℕ} → EntryRoom (length before) k free → Reads (classWord wd d) c → (c ≡ 2 → ⊥)
+    → after ≡ withWords before k (plainWords ws s wd d) → EntryPut before k free free ws ts wd td s d after free
+unfolding plainWords
+put-plain before k free ws ts wd td s d {after} room rc not h = go (oneReal ws s wd d) refl h
+  where
+    no-enum : classWord wd d ≡ 2 → ⊥
+    no-enum is = not (rc .is ∙ is)
+
+    go : (t : Bool) → oneReal ws s wd d ≡ t → after ≡ withWords before k (cond t (3 ∷ 0 ∷ 0 ∷ 0 ∷ []) (easyWords (layoutAt ws s) (layoutAt wd d)))
+        → EntryPut before k free free ws ts wd td s d after free
+    go true e g = put-mixed before k free ws ts wd td s d room no-enum e g
+    go false e g = put-alike before k free ws ts wd td s d room no-enum e g
+
 -- an enum whose rows are looked through
 pub put-looked : (before : List ℕ) (k free : ℕ) (ws ts wd td : List ℕ) (s d : ℕ) {after : List ℕ} → EntryRoom (length before) k free → classWord wd d ≡ 2
-    → after ≡ withWords before k (6 ∷ 0 ∷ 0 ∷ 0 ∷ []) → EntryPut before k free free ws ts wd td s d after free
+    → after ≡ withWords before k (7 ∷ 0 ∷ 0 ∷ 0 ∷ []) → EntryPut before k free free ws ts wd td s d after free
 unfolding routeIn
 put-looked before k free ws ts wd td s d room is h =
     let fits : k + 4 ≤ length before = omega (arith, room .before, room .within) in
-    let route : routeIn (getD (withWords before k (6 ∷ 0 ∷ 0 ∷ 0 ∷ [])) k 0) ≡ 6 = rw (put-first before 6 (0 ∷ 0 ∷ 0 ∷ []) k refl fits) in
+    let route : routeIn (getD (withWords before k (7 ∷ 0 ∷ 0 ∷ 0 ∷ [])) k 0) ≡ 7 = rw (put-first before 7 (0 ∷ 0 ∷ 0 ∷ []) k refl fits) in
     rw h (record {
       here =
           record {
             entry =
                 record {
                   plain = λ low. absurd (omega (arith, route));
+                  alike = λ low. absurd (omega (arith, route));
+                  mixed = λ is. absurd (omega (arith, route));
                   easy = λ some low. absurd (omega (arith, route));
                   enum = λ high. is;
                   fast = λ high low. absurd (omega (arith, route));
@@ -322,9 +379,9 @@ put-looked before k free ws ts wd td s d room is h =
             bounds = λ high low. absurd (omega (arith, route));
           };
       grows = le-refl free;
-      below = λ j low. words-below (6 ∷ 0 ∷ 0 ∷ 0 ∷ []) before k j low;
-      between = λ j high low. words-above (6 ∷ 0 ∷ 0 ∷ 0 ∷ []) before k j high;
-      long = words-length (6 ∷ 0 ∷ 0 ∷ 0 ∷ []) before k;
+      below = λ j low. words-below (7 ∷ 0 ∷ 0 ∷ 0 ∷ []) before k j low;
+      between = λ j high low. words-above (7 ∷ 0 ∷ 0 ∷ 0 ∷ []) before k j high;
+      long = words-length (7 ∷ 0 ∷ 0 ∷ 0 ∷ []) before k;
     })
 
 -- significant bits by the words of a span
@@ -373,6 +430,8 @@ put-spanned before k free ws ts wd td s d {mid} {after} {code} {n} {low} {count}
             entry =
                 record {
                   plain = λ less. absurd (omega (arith, packs .least, rw first at less));
+                  alike = λ less. absurd (omega (arith, packs .least, rw first at less));
+                  mixed = λ is. absurd (omega (arith, packs .least, rw first at is));
                   easy = λ some less. absurd (omega (arith, packs .least, rw first at less));
                   enum = λ more. is;
                   fast = λ more less. enum-moved (layoutAt ws s) (layoutAt wd d) after (code ∷ []) k 0 first (packs .fast (rw first at less));
@@ -393,15 +452,15 @@ put-spanned before k free ws ts wd td s d {mid} {after} {code} {n} {low} {count}
 
 -- ---- the packed word of two enums
 
-pub word-slow : (l m : Layout) → SpanWord l m 5
+pub word-slow : (l m : Layout) → SpanWord l m 6
 unfolding routeIn
 word-slow l m = record { least = omega arith; most = omega arith; fast = λ h. absurd (omega arith) }
 
 word-fast : (l m : Layout) → Valid l → Valid m → m .offset .0 ≡ 0 → m .precision ≡ 8 * m .size .0
-    → SpanWord l m (packed (3 + orderCode (l .order)) (shiftOf (l .order) (l .size .0) (l .offset .0)) (l .precision) (m .size .0) (orderCode (m .order)) (m .precision))
+    → SpanWord l m (packed (4 + orderCode (l .order)) (shiftOf (l .order) (l .size .0) (l .offset .0)) (l .precision) (m .size .0) (orderCode (m .order)) (m .precision))
 word-fast l m v u lowest whole =
     let route = order-small (l .order) in
-    let r : 3 + orderCode (l .order) < 8 = omega arith in
+    let r : 4 + orderCode (l .order) < 8 = omega arith in
     let s = shift-small (l .order) (l .size .0) (l .offset .0) (l .precision) (v .sized) (v .some) (v .inside) in
     let p : l .precision < 128 = omega (arith, v .most) in
     let z : m .size .0 < 16 = omega (arith, u .sized) in
@@ -428,7 +487,7 @@ word-fast l m v u lowest whole =
 
 pub word-read : (ws wd : List ℕ) (s d : ℕ) {l m : Layout} {code : ℕ} → Valid (layoutAt ws s) × Valid (layoutAt wd d) → l ≡ layoutAt ws s → m ≡ layoutAt wd d → m .offset .0 ≡ 0
     → m .precision ≡ 8 * m .size .0
-    → code ≡ packed (3 + orderCode (l .order)) (shiftOf (l .order) (l .size .0) (l .offset .0)) (l .precision) (m .size .0) (orderCode (m .order)) (m .precision)
+    → code ≡ packed (4 + orderCode (l .order)) (shiftOf (l .order) (l .size .0) (l .offset .0)) (l .precision) (m .size .0) (orderCode (m .order)) (m .precision)
     → SpanWord (layoutAt ws s) (layoutAt wd d) code
 word-read ws wd s d {l} {m} v el em lowest whole h = rw (h, ← el, ← em) (word-fast l m (rw el (v .0)) (rw em (v .1)) lowest whole)
 

@@ -1,14 +1,19 @@
--- What the functions that convert one leaf promise of an enum's number on its way. No meaning of document 01 stands here.
+-- What the functions that convert one leaf promise of an enum's and of a real's number on its way. No meaning of document 01 stands here.
 use Prim.Native.Nat.{ℕ, zero, suc, _+_, _-_, _^_, _≤_, _<_}
+use mathlib.Core.Path.{_≡_}
+use mathlib.Core.Bool.{false, cond}
 use mathlib.Core.List.{List}
 use lib.IntN.{ℤ}
 use lib.ListN.{getD, length}
 use Rattle.number.specs.declared.Fitted.{Fitted}
-use Rattle.number.specs.Number.{bitsOf}
+use Rattle.layout.specs.Layout.{Valid}
+use Rattle.number.specs.Number.{numberAt, bitsOf}
+use Rattle.number.specs.Place.{rawAt}
+use Rattle.reals.specs.Convert.{intToReal, realToInt}
 use Rattle.table.specs.Table.{firstWord, layoutAt, valueAt}
 use Rattle.table.specs.Rows.{rowNumbered}
 use Rattle.entry_code.specs.Code.{routeIn}
-use Rattle.plans.specs.PlanWords.{symbolRows, alikeCode, Pair}
+use Rattle.plans.specs.PlanWords.{symbolRows, alikeCode, isReal, Pair}
 
 abbrev pub allOnes : ℕ → Fitted
 allOnes p = record { raw = 2 ^ p - 1; kind = 3 }
@@ -27,7 +32,7 @@ pub record EnumReady (n a s d : ℕ) (ws wd words : List ℕ) (k : ℕ) : Type 0
   pub pair : Pair s d ws wd words k
   pub read : a + layoutAt ws s .size .0 ≤ n
   pub room : k + 4 ≤ length words
-  pub enum : 3 ≤ routeIn (getD words k 0)
+  pub enum : 4 ≤ routeIn (getD words k 0)
 
 -- the same on its way to byte b of m bytes, where eight bytes can be read and its packed word says all
 pub record EnumHere (n m b a s d : ℕ) (ws wd words : List ℕ) (k : ℕ) : Type 0 where
@@ -35,5 +40,16 @@ pub record EnumHere (n m b a s d : ℕ) (ws wd words : List ℕ) (k : ℕ) : Typ
   pub read : a + 8 ≤ n
   pub write : b + layoutAt wd d .size .0 ≤ m
   pub room : k + 4 ≤ length words
-  pub enum : 3 ≤ routeIn (getD words k 0)
-  pub fast : routeIn (getD words k 0) < 5
+  pub enum : 4 ≤ routeIn (getD words k 0)
+  pub fast : routeIn (getD words k 0) < 6
+
+-- what the number of the leaf of type s at byte a of the record r becomes in type d, where one of the two is a real
+unfoldable pub realBecomes : List ℕ → ℕ → List ℕ → ℕ → ℕ → List ℕ → Fitted
+realBecomes ws s wd d a r = cond (isReal ws s) (realToInt (layoutAt wd d) (rawAt (layoutAt ws s) a r)) (intToReal (numberAt (layoutAt ws s) a r))
+
+-- the leaf of type s at byte a of n bytes on its way to type d, where one of the two is a real
+pub record RealReady (n a s d : ℕ) (ws wd : List ℕ) : Type 0 where
+  pub source : Valid (layoutAt ws s)
+  pub destination : Valid (layoutAt wd d)
+  pub read : a + layoutAt ws s .size .0 ≤ n
+  pub real : isReal ws s ≡ false → layoutAt wd d .precision ≡ 64

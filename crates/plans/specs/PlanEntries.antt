@@ -1,6 +1,7 @@
 -- What the functions that make and read the entries of a plan promise, and the answer of a scan. No meaning of document 01 stands here.
 use mathlib.Core.Path.{_≡_}
-use mathlib.Core.List.{List}
+use mathlib.Core.Bool.{cond}
+use mathlib.Core.List.{List, [], _∷_}
 use Prim.Native.Nat.{ℕ, _+_, _≤_, _<_}
 use lib.ListN.{getD, length}
 use Rattle.datatype.specs.WellFormed.{WellFormedLeaf}
@@ -11,7 +12,8 @@ use Rattle.plans.specs.declared.Raising.{Raising}
 use Rattle.plans.specs.declared.Raising.the-variants.{At, Nowhere}
 use Rattle.records.specs.Plan.{Raised}
 use Rattle.records.specs.Plan.Raised.{nowhere, at}
-use Rattle.plans.specs.PlanWords.{leafOfType, RowsWithin, toByte, fromByte, sourceType, destinationType, wordsPlace, EntryWords, NamesAt, Pair}
+use Rattle.easy.specs.Easy.{easyWords}
+use Rattle.plans.specs.PlanWords.{leafOfType, RowsWithin, oneReal, toByte, fromByte, sourceType, destinationType, wordsPlace, EntryWords, NamesAt, Pair}
 
 abbrev pub wordsAt : List ℕ → ℕ → PlanEntry
 wordsAt plan i = record { to = toByte plan i; from = fromByte plan i; source = sourceType plan i; destination = destinationType plan i }
@@ -37,10 +39,14 @@ pub record PairFormed (ws ts wd td : List ℕ) (s d : ℕ) : Type 0 where
   pub sourceRows : RowsWithin ws s
   pub destinationRows : RowsWithin wd d
 
+-- those of an entry to a type that is no enum: the route alone between a real and another leaf, else what the two layouts give
+unfoldable pub plainWords : List ℕ → ℕ → List ℕ → ℕ → List ℕ
+plainWords ws s wd d = cond (oneReal ws s wd d) (3 ∷ 0 ∷ 0 ∷ 0 ∷ []) (easyWords (layoutAt ws s) (layoutAt wd d))
+
 -- the words of an entry, whose span lies between `start` and `free`
 pub record Standing (words : List ℕ) (k start free : ℕ) (ws ts wd td : List ℕ) (s d : ℕ) : Type 0 where
   pub entry : EntryWords words k ws ts wd td s d
-  pub bounds : 3 ≤ routeIn (getD words k 0) → routeIn (getD words k 0) < 6 → (start ≤ getD words (k + 3) 0) × (getD words (k + 3) 0 + getD words (k + 2) 0 ≤ free)
+  pub bounds : 4 ≤ routeIn (getD words k 0) → routeIn (getD words k 0) < 7 → (start ≤ getD words (k + 3) 0) × (getD words (k + 3) 0 + getD words (k + 2) 0 ≤ free)
 
 -- those of one entry, from word k on, put into `before`: words below k and those from behind them up to `free` are as they were, and spans now end at `next`
 pub record EntryPut (before : List ℕ) (k start free : ℕ) (ws ts wd td : List ℕ) (s d : ℕ) (after : List ℕ) (next : ℕ) : Type 0 where
@@ -57,6 +63,6 @@ pub record EntriesPut (before plan : List ℕ) (n : ℕ) (ws ts wd td after : Li
 
 -- the ids of names, put where one of n entries wants them; the words behind the ids are as they were
 pub record NamesPut (before : List ℕ) (n : ℕ) (ws ts wd td after : List ℕ) : Type 0 where
-  pub names : (i : ℕ) → i < n → 6 ≤ routeIn (getD after (wordsPlace i) 0) → NamesAt after ws ts wd td
+  pub names : (i : ℕ) → i < n → 7 ≤ routeIn (getD after (wordsPlace i) 0) → NamesAt after ws ts wd td
   pub above : (j : ℕ) → 512 ≤ j → getD after j 0 ≡ getD before j 0
   pub long : length after ≡ length before

@@ -2,7 +2,7 @@
 -- the names of enums' rows, where a call wants them, in the first 512; then four words an entry, by which its leaf is converted; then the spans of enums. `ws` and `wd` are
 -- the two halves of the working table, `ts` and `td` the sheets' texts beside them.
 use mathlib.Core.Path.{_≡_}
-use mathlib.Core.Bool.{Bool, true, cond, _&&_}
+use mathlib.Core.Bool.{Bool, true, false, cond, not, _&&_}
 use mathlib.Core.List.{List, [], _∷_}
 use Prim.Native.Nat.{ℕ, zero, suc, _+_, _-_, _*_, _/_, _%_, _^_, _≤_, _<_}
 use lib.Dec.{eqb, leb, ltb}
@@ -12,11 +12,11 @@ use Rattle.layout.specs.Layout.{Valid}
 use Rattle.number.specs.declared.Fitted.{Fitted}
 use Rattle.number.specs.Number.{valued}
 use Rattle.datatype.specs.Datatype.{Leaf, Datatype, size, same}
-use Rattle.datatype.specs.Datatype.Leaf.{atomic, enumeration}
 use Rattle.datatype.specs.WellFormed.{WellFormedLeaf, WellFormed}
 use Rattle.table.specs.declared.Found.{Found}
 use Rattle.table.specs.declared.Found.the-variants.{At, Missing}
-use Rattle.table.specs.Table.{classWord, firstWord, rowsWord, layoutAt, nameAt, symbolsAt}
+use Rattle.table.specs.Table.{classWord, firstWord, rowsWord, layoutAt, nameAt}
+unfoldable pub use Rattle.table.specs.Table.{leafOfType}
 use Rattle.table.specs.Records.{orderCode}
 use Rattle.table.specs.Rows.{rowNamed, rowNumbered}
 use Rattle.entry_code.specs.Code.{routeIn, shiftIn, precisionIn, sizeIn, orderIn, bitsIn}
@@ -26,11 +26,6 @@ use Rattle.records.specs.Leaf.{numberIn, converted}
 use Rattle.records.specs.Plan.{Entry, planOf, AllSound}
 
 -- ---- entries
-
--- type k where it is a leaf
-unfoldable pub leafOfType : List ℕ → List ℕ → ℕ → Leaf
-leafOfType w t k =
-    cond (eqb (classWord w k) 2) (enumeration (layoutAt w k) (symbolsAt w t (firstWord w k) (rowsWord w k))) (atomic (layoutAt w k))
 
 -- entry i: the byte of the destination record and that of the source record, the source leaf's type and the destination leaf's
 unfoldable pub toByte : List ℕ → ℕ → ℕ
@@ -90,6 +85,15 @@ namedCode ws ts wd td d Missing = 0
 unfoldable pub translatedCode : List ℕ → List ℕ → List ℕ → List ℕ → ℕ → ℕ → ℕ → ℕ
 translatedCode ws ts wd td s d raw = namedCode ws ts wd td d (numberRow ws s raw)
 
+-- ---- reals
+
+abbrev pub isReal : List ℕ → ℕ → Bool
+isReal w k = eqb (classWord w k) 5
+
+-- of the types s and d, one is a real and the other is none
+unfoldable pub oneReal : List ℕ → ℕ → List ℕ → ℕ → Bool
+oneReal ws s wd d = cond (isReal ws s) (not (isReal wd d)) (isReal wd d)
+
 -- ---- the words of an entry, from word k on
 
 -- where those of entry i begin
@@ -114,7 +118,7 @@ pub record EnumAt (l m : Layout) (words : List ℕ) (k : ℕ) : Type 0 where
   pub destination : Valid m
   pub lowest : m .offset .0 ≡ 0
   pub whole : m .precision ≡ 8 * m .size .0
-  pub order : routeIn (getD words k 0) ≡ 3 + orderCode (l .order)
+  pub order : routeIn (getD words k 0) ≡ 4 + orderCode (l .order)
   pub shift : shiftIn (getD words k 0) ≡ shiftOf (l .order) (l .size .0) (l .offset .0)
   pub precision : precisionIn (getD words k 0) ≡ l .precision
   pub size : sizeIn (getD words k 0) ≡ m .size .0
@@ -123,11 +127,13 @@ pub record EnumAt (l m : Layout) (words : List ℕ) (k : ℕ) : Type 0 where
 
 -- the words of an entry from type s to type d say what its route needs
 pub record EntryWords (words : List ℕ) (k : ℕ) (ws ts wd td : List ℕ) (s d : ℕ) : Type 0 where
-  pub plain : routeIn (getD words k 0) < 3 → classWord wd d ≡ 2 → ⊥
+  pub plain : routeIn (getD words k 0) < 4 → classWord wd d ≡ 2 → ⊥
+  pub alike : routeIn (getD words k 0) < 3 → oneReal ws s wd d ≡ false
   pub easy : 1 ≤ routeIn (getD words k 0) → routeIn (getD words k 0) < 3 → EasyAt (layoutAt ws s) (layoutAt wd d) words k
-  pub enum : 3 ≤ routeIn (getD words k 0) → classWord wd d ≡ 2
-  pub fast : 3 ≤ routeIn (getD words k 0) → routeIn (getD words k 0) < 5 → EnumAt (layoutAt ws s) (layoutAt wd d) words k
-  pub span : 3 ≤ routeIn (getD words k 0) → routeIn (getD words k 0) < 6 → SpanAt words k ws ts wd td s d
+  pub mixed : routeIn (getD words k 0) ≡ 3 → oneReal ws s wd d ≡ true
+  pub enum : 4 ≤ routeIn (getD words k 0) → classWord wd d ≡ 2
+  pub fast : 4 ≤ routeIn (getD words k 0) → routeIn (getD words k 0) < 6 → EnumAt (layoutAt ws s) (layoutAt wd d) words k
+  pub span : 4 ≤ routeIn (getD words k 0) → routeIn (getD words k 0) < 7 → SpanAt words k ws ts wd td s d
 
 -- ---- names
 
@@ -164,7 +170,7 @@ pub record Pair (s d : ℕ) (ws wd words : List ℕ) (k : ℕ) : Type 0 where
   pub sourceRows : RowsWithin ws s
   pub destinationRows : RowsWithin wd d
   pub entry : EntryWords words k ws sourceText wd destinationText s d
-  pub names : 6 ≤ routeIn (getD words k 0) → NamesAt words ws sourceText wd destinationText
+  pub names : 7 ≤ routeIn (getD words k 0) → NamesAt words ws sourceText wd destinationText
 
 -- what the number of the pair's source leaf at byte a of the record r becomes
 abbrev pub pairBecomes : {s d : ℕ} {ws wd words : List ℕ} {k : ℕ} → Pair s d ws wd words k → ℕ → List ℕ → Fitted
@@ -183,7 +189,7 @@ pub record Ready (s d : ℕ) (plan : List ℕ) (n : ℕ) (ws wd words : List ℕ
   pub most : n ≤ 4096
   pub long : wordsPlace n ≤ length words
   pub entry : (i : ℕ) → i < n → EntryWords words (wordsPlace i) ws sourceText wd destinationText (sourceType plan i) (destinationType plan i)
-  pub names : (i : ℕ) → i < n → 6 ≤ routeIn (getD words (wordsPlace i) 0) → NamesAt words ws sourceText wd destinationText
+  pub names : (i : ℕ) → i < n → 7 ≤ routeIn (getD words (wordsPlace i) 0) → NamesAt words ws sourceText wd destinationText
 
 abbrev pub entriesOf : {s d : ℕ} {plan : List ℕ} {n : ℕ} {ws wd words : List ℕ} → Ready s d plan n ws wd words → List Entry
 entriesOf {plan = plan} {n = n} {ws = ws} {wd = wd} p = entriesAt plan n ws (p .sourceText) wd (p .destinationText)
@@ -205,4 +211,4 @@ pub record Job (s d : ℕ) (plan : List ℕ) (n : ℕ) (ws wd words : List ℕ) 
   pub most : n ≤ 4096
   pub long : wordsPlace n ≤ length words
   pub entry : (i : ℕ) → i < n → EntryWords words (wordsPlace i) ws sourceText wd destinationText (sourceType plan i) (destinationType plan i)
-  pub names : (i : ℕ) → i < n → 6 ≤ routeIn (getD words (wordsPlace i) 0) → NamesAt words ws sourceText wd destinationText
+  pub names : (i : ℕ) → i < n → 7 ≤ routeIn (getD words (wordsPlace i) 0) → NamesAt words ws sourceText wd destinationText

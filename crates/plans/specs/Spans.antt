@@ -37,9 +37,9 @@ pub record SpanPut (before : List ℕ) (base low count : ℕ) (ws ts wd td : Lis
 
 -- the packed word of two enums that go by a span
 pub record SpanWord (l m : Layout) (code : ℕ) : Type 0 where
-  pub least : 3 ≤ routeIn code
-  pub most : routeIn code < 6
-  pub fast : routeIn code < 5 → EnumAt l m (code ∷ []) 0
+  pub least : 4 ≤ routeIn code
+  pub most : routeIn code < 7
+  pub fast : routeIn code < 6 → EnumAt l m (code ∷ []) 0
 
 -- of n words, those of an entry from word k on stand before word `free`, from which on spans may be put
 pub record EntryRoom (n k free : ℕ) : Type 0 where

@@ -1,5 +1,5 @@
--- Document 01, "Exercises with answers": the marked ones, its leaf list, and two more that tell the remaining classroom errors apart, as one
--- statement over one list, which the checker computes. Assumes nothing.
+-- Document 01, "Exercises with answers": the marked ones, its leaf list, two more that tell the remaining classroom errors apart, and numbers to and from the
+-- reals of document 02, 2026-03, as one statement over one list, which the checker computes. Assumes nothing.
 use mathlib.Core.Path.{_≡_, refl}
 use mathlib.Core.Bool.{Bool, true, false}
 use mathlib.Core.List.{List, [], _∷_, _++_, map}
@@ -21,6 +21,9 @@ use Rattle.layout.specs.Setters.{Edit, edit}
 use Rattle.layout.specs.Setters.Edit.{size, precision, offset}
 use Rattle.number.specs.Place.{stored}
 use Rattle.number.specs.Number.{numberAt, fitted}
+use Rattle.reals.specs.Worth as worths
+use Rattle.reals.specs.Nearest as nearest
+use Rattle.reals.specs.Convert as reals
 use Rattle.datatype.specs.Datatype.{same}
 use Rattle.datatype.specs.Symbols.{symbolOf, numberOf as numberNamed}
 use Rattle.datatype.specs.Leaves as leaves
@@ -95,6 +98,15 @@ signedByte = "int\t1\tLE\t0\t8\tzero\tzero\tsigned\n"
 abbrev unsignedByte : String
 unsignedByte = "int\t1\tLE\t0\t8\tzero\tzero\tunsigned\n"
 
+abbrev realLE : String
+realLE = "real\t8\tLE\n"
+
+abbrev realBE : String
+realBE = "real\t8\tBE\n"
+
+abbrev unsignedLong : String
+unsignedLong = "int\t8\tBE\t0\t64\tzero\tzero\tunsigned\n"
+
 rows : List Row
 rows =
     -- 4386 into 4 bytes, precision 16, offset 16
@@ -112,6 +124,30 @@ rows =
     -- enums go by their symbols
     ∷ record { exercise = convert state exchanged (0 ∷ []) (9 ∷ []); solution = bytesAndKind (1 ∷ []) 0 }
     ∷ record { exercise = convert state exchanged (7 ∷ []) (9 ∷ []); solution = bytesAndKind (0xff ∷ []) 3 }
+    -- a real to an int: the fraction goes first, then the range is looked at
+    ∷ record { exercise = convert realBE unsignedByte (0x40 ∷ 0x6f ∷ 0xf0 ∷ 0 ∷ 0 ∷ 0 ∷ 0 ∷ 0 ∷ []) (9 ∷ []); solution = bytesAndKind (0xff ∷ []) 5 }
+    ∷ record { exercise = convert realLE unsignedByte (0 ∷ 0 ∷ 0 ∷ 0 ∷ 0 ∷ 8 ∷ 0x70 ∷ 0x40 ∷ []) (9 ∷ []); solution = bytesAndKind (0xff ∷ []) 1 }
+    -- −0.5, −1, −0, an infinity and a not-a-number
+    ∷ record { exercise = convert realLE unsignedByte (0 ∷ 0 ∷ 0 ∷ 0 ∷ 0 ∷ 0 ∷ 0xe0 ∷ 0xbf ∷ []) (9 ∷ []); solution = bytesAndKind (0 ∷ []) 5 }
+    ∷ record { exercise = convert realLE unsignedByte (0 ∷ 0 ∷ 0 ∷ 0 ∷ 0 ∷ 0 ∷ 0xf0 ∷ 0xbf ∷ []) (9 ∷ []); solution = bytesAndKind (0 ∷ []) 2 }
+    ∷ record { exercise = convert realBE signedByte (0x80 ∷ 0 ∷ 0 ∷ 0 ∷ 0 ∷ 0 ∷ 0 ∷ 0 ∷ []) (9 ∷ []); solution = bytesAndKind (0 ∷ []) 5 }
+    ∷ record { exercise = convert realBE signedByte (0xff ∷ 0xf0 ∷ 0 ∷ 0 ∷ 0 ∷ 0 ∷ 0 ∷ 0 ∷ []) (9 ∷ []); solution = bytesAndKind (0x80 ∷ []) 2 }
+    ∷ record { exercise = convert realBE signedByte (0x7f ∷ 0xf8 ∷ 0 ∷ 0 ∷ 0 ∷ 0 ∷ 0 ∷ 0 ∷ []) (9 ∷ []); solution = bytesAndKind (0 ∷ []) 4 }
+    -- an int to a real: −128 and 2^53 are doubles, 2^53 + 1 is none, and the nearest one is even
+    ∷ record { exercise = convert signedByte realBE (0x80 ∷ []) (replicate 8 9); solution = bytesAndKind (0xc0 ∷ 0x60 ∷ 0 ∷ 0 ∷ 0 ∷ 0 ∷ 0 ∷ 0 ∷ []) 0 }
+    ∷ record {
+      exercise = convert unsignedLong realLE (0 ∷ 0x20 ∷ 0 ∷ 0 ∷ 0 ∷ 0 ∷ 0 ∷ 0 ∷ []) (replicate 8 9);
+      solution = bytesAndKind (0 ∷ 0 ∷ 0 ∷ 0 ∷ 0 ∷ 0 ∷ 0x40 ∷ 0x43 ∷ []) 0;
+    }
+    ∷ record {
+      exercise = convert unsignedLong realLE (0 ∷ 0x20 ∷ 0 ∷ 0 ∷ 0 ∷ 0 ∷ 0 ∷ 1 ∷ []) (replicate 8 9);
+      solution = bytesAndKind (0 ∷ 0 ∷ 0 ∷ 0 ∷ 0 ∷ 0 ∷ 0x40 ∷ 0x43 ∷ []) 6;
+    }
+    -- a real to a real: all 64 bits, of a signalling not-a-number too
+    ∷ record {
+      exercise = convert realBE realLE (0xff ∷ 0xf0 ∷ 0 ∷ 0 ∷ 0 ∷ 0 ∷ 0 ∷ 1 ∷ []) (replicate 8 9);
+      solution = bytesAndKind (1 ∷ 0 ∷ 0 ∷ 0 ∷ 0 ∷ 0 ∷ 0xf0 ∷ 0xff ∷ []) 0;
+    }
     -- setters
     ∷ record { exercise = set (wide LE) (size 3); solution = edited 0 (int 3 LE 8 16 Zero Zero false) }
     ∷ record { exercise = set (wide LE) (size 1); solution = edited 0 (int 1 LE 0 8 Zero Zero false) }
@@ -144,5 +180,5 @@ rows =
     ∷ []
 
 solved : map (λ (r : Row). solve (r .exercise)) rows ≡ map (λ (r : Row). r .solution) rows
-unfolding rows solve setters.setSize setters.setPrecision setters.setOffset same symbolOf numberNamed leaves.within leaves.leafAt paths.memberNamed paths.hasPath matches.matchAt text.split fields.digits fields.decimal fields.number fields.enumNumber fields.decimalIn fields.eachPrintable fields.name line.column line.order line.pad line.sign line.layoutColumns line.intLine line.bitsLine line.enumLineOf line.valueLineOf line.compoundLineOf line.memberLineOf line.numbers line.arrayLineOf line.lineKind line.lineOf sheet.typeNumbered sheet.isApart sheet.judge sheet.linesFrom sheet.outcomeOf sheet.sheetOf one.reading one.withLeaf one.withLeavesBelow one.kindAt one.raisedBelow one.firstRaising many.joined many.exceptions runs.checksOf runs.stopFrom runs.answer runs.after lists.leafLines lists.leafList listing.answerOf listing.listAfter
+unfolding rows solve setters.setSize setters.setPrecision setters.setOffset same symbolOf numberNamed leaves.within leaves.leafAt paths.memberNamed paths.hasPath matches.matchAt text.split fields.digits fields.decimal fields.number fields.enumNumber fields.decimalIn fields.eachPrintable fields.name line.column line.order line.pad line.sign line.layoutColumns line.intLine line.bitsLine line.enumLineOf line.valueLineOf line.compoundLineOf line.memberLineOf line.numbers line.arrayLineOf line.realLineOf line.lineKind line.lineOf sheet.typeNumbered sheet.isApart sheet.judge sheet.linesFrom sheet.outcomeOf sheet.sheetOf worths.worth nearest.highest nearest.magnitudeBits reals.intToReal reals.realToIntOf one.reading one.withLeaf one.withLeavesBelow one.kindAt one.raisedBelow one.firstRaising many.joined many.exceptions runs.checksOf runs.stopFrom runs.answer runs.after lists.leafLines lists.leafList listing.answerOf listing.listAfter
 solved = refl

@@ -1,3 +1,4 @@
 pub mod Exercises
+pub mod Reals
 pub mod Promises
 pub mod Demand1

@@ -13,7 +13,7 @@ use Rattle.answer.specs.declared.Answer.the-variants.{Done, Handling, Table, Ro
 use Rattle.answer.specs.Answer.{numberOf, valuesOf}
 use Rattle.number.specs.Place.{place, stored}
 use Rattle.datatype.specs.Datatype.{layoutOf, Datatype, size}
-use Rattle.datatype.specs.WellFormed.{WellFormed}
+use Rattle.datatype.specs.WellFormed.{WellFormedLeaf, WellFormed}
 use Rattle.datatype.proofs.Matches.{match-formed, path-back}
 use Rattle.sheet.specs.Sheet.{sheetOf}
 use Rattle.sheet.proofs.ReadWellFormed.{read-well-formed}
@@ -21,7 +21,7 @@ use Rattle.records.specs.Leaf.{numberIn}
 use Rattle.records.specs.Arrival.{standsFor}
 use Rattle.records.specs.Records.{recordAt, readings, convertedAt, convertedRecords, exceptions}
 use Rattle.records.specs.Matched.{MatchedLeaf, matchedNumber, Agree}
-use Rattle.records.proofs.OneLeaf.{arrives}
+use Rattle.records.proofs.OneLeaf.{InRange, read-in-range, arrives}
 use Rattle.records.proofs.OneRecord.{converted-place, read-converted, reading-at, converted-keeps}
 use Rattle.records.proofs.ManyRecords.{record-length, in-none, converted-in, agree-readings, same-converted, same-bytes, returns-quiet, returns-same}
 use Rattle.records.proofs.Matched.{bits-agree, agree-bits}
@@ -266,11 +266,18 @@ module _ (r : Run) (S D : Datatype) (c : checks r ≡ passed S D) (d : IsDone r)
       ∙ converted-place S D (source-formed r S D c) (destination-formed r S D c) (readings S D (r .source) (m .index)) (m .to) (m .from) (m .source) (m .destination)
       (matchedNumber m (r .source)) (m .match) read-it (recordOf m (r .background)) (background-length r S D c (m .index) (m .in-records))
 
+  source-leaf : WellFormedLeaf (m .source)
+  source-leaf = match-formed S D (source-formed r S D c) (destination-formed r S D c) (m .to) (m .from) (m .source) (m .destination) (m .match) .0
+
+  -- what is read is in range
+  read-fits : InRange (m .source) (matchedNumber m (r .source))
+  read-fits = read-in-range (m .source) (m .from) (recordAt (size S) (m .index) (r .source)) source-leaf
+
   arrived-number : arrivedNumber m (after r) ≡ standsFor (m .destination) (becomes m (r .source) .raw)
   arrived-number =
       ap (numberIn (m .destination) (m .to)) (record-is r S D c (m .index) d (m .in-records))
       ∙ read-converted S D (source-formed r S D c) (destination-formed r S D c) (readings S D (r .source) (m .index)) (m .to) (m .from) (m .source) (m .destination)
-      (matchedNumber m (r .source)) (m .match) read-it (recordOf m (r .background)) (background-length r S D c (m .index) (m .in-records))
+      (matchedNumber m (r .source)) (m .match) read-it read-fits (recordOf m (r .background)) (background-length r S D c (m .index) (m .in-records))
 
   arrived : Arrived r m
   arrived =
@@ -279,8 +286,8 @@ module _ (r : Run) (S D : Datatype) (c : checks r ≡ passed S D) (d : IsDone r)
         holds = arrived-number;
         number = λ k.
             rw arrived-number
-            (arrives (m .source) (m .destination) (matchedNumber m (r .source))
-            (match-formed S D (source-formed r S D c) (destination-formed r S D c) (m .to) (m .from) (m .source) (m .destination) (m .match) .1) k);
+            (arrives (m .source) (m .destination) (matchedNumber m (r .source)) source-leaf
+            (match-formed S D (source-formed r S D c) (destination-formed r S D c) (m .to) (m .from) (m .source) (m .destination) (m .match) .1) read-fits k);
       }
 
 module _ (r : Run) where

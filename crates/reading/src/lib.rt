@@ -12,6 +12,7 @@ use judging::judge_atomic;
 use judging::judge_compound;
 use judging::judge_enum;
 use judging::judge_member;
+use judging::judge_real;
 use judging::judge_value;
 use line::Line;
 use line::ReadLine;
@@ -52,6 +53,7 @@ fn judge_line(half: &mut [u32], sheet: &[u8], types: u32, rows: u32, r: ReadLine
             kind,
         ),
         Line::Array(base, _) => judge_array(half, sheet, types, rows, base, dims),
+        Line::Real(size, order, _) => judge_real(half, sheet, types, rows, size, order),
         Line::Fault => Judged::Refused,
     }
 }
@@ -67,6 +69,7 @@ fn next_of(line: Line) -> usize
         Line::Compound(_, next) => next,
         Line::Member(_, _, _, _, next) => next,
         Line::Array(_, next) => next,
+        Line::Real(_, _, next) => next,
         Line::Fault => 0,
     }
 }

@@ -24,7 +24,7 @@ use Rattle.datatype.proofs.Matches.{in-range, match-back, match-leaf, match-for
 use Rattle.records.specs.Leaf.{numberIn, converted}
 use Rattle.records.specs.Arrival.{standsFor}
 use Rattle.records.specs.Record.{Reading, reading, withLeaf, withLeavesBelow, convertedRecord, kindAt, raises, raisedBelow}
-use Rattle.records.proofs.OneLeaf.{converted-lt, read-in-range, Returns, leaf-back}
+use Rattle.records.proofs.OneLeaf.{converted-lt, InRange, read-in-range, Returns, leaf-back}
 
 -- ---- the fold of writes
 
@@ -114,11 +114,12 @@ module _ (S D : Datatype) (fs : WellFormed S) (fd : WellFormed D) (f : Reading) 
     converted-place bg h = written (size D) bg h (starts b a x y m)
 
     -- so the leaf holds the number that z became
-    pub read-converted : (bg : List ℕ) → length bg ≡ size D → numberIn y b (convertedRecord S D f bg) ≡ standsFor y (converted x y z .raw)
-    read-converted bg h =
-        let g = match-formed S D fs fd b a x y m .1 in
+    pub read-converted : InRange x z → (bg : List ℕ) → length bg ≡ size D → numberIn y b (convertedRecord S D f bg) ≡ standsFor y (converted x y z .raw)
+    read-converted i bg h =
+        let formed = match-formed S D fs fd b a x y m in
+        let g = formed .1 in
         ap (λ (p : List ℕ). standsFor y (field (layoutOf y .offset .0) (layoutOf y .precision) (container (layoutOf y .order) p))) (converted-place bg h)
-        ∙ ap (standsFor y) (raw-back (layoutOf y) b (converted x y z .raw) bg (valid y g) (ends bg h) (converted-lt x y z g))
+        ∙ ap (standsFor y) (raw-back (layoutOf y) b (converted x y z .raw) bg (valid y g) (ends bg h) (converted-lt x y z (formed .0) g i))
 
 -- ---- exceptions
 
@@ -177,7 +178,7 @@ module _ (S D : Datatype) (fs : WellFormed S) (fd : WellFormed D) (path : hasPat
         let k : converted x y (numberIn x a r) .kind ≡ 0 =
         sym (kind-at S D (reading S D r) b a x y (numberIn x a r) m e)
         ∙ none-raised S D (reading S D r) (size D) quiet b (starts S D fs fd (reading S D r) b a x y m) in
-        subst (Returns x y (numberIn x a r)) (sym (read-converted S D fs fd (reading S D r) b a x y (numberIn x a r) m e bg h))
+        subst (Returns x y (numberIn x a r)) (sym (read-converted S D fs fd (reading S D r) b a x y (numberIn x a r) m e (read-in-range x a r (g .0)) bg h))
         (leaf-back x y (numberIn x a r) (g .0) (g .1) (match-path S D fs fd path b a x y m) (read-in-range x a r (g .0)) k)
 
     -- going back raises nothing
@@ -193,7 +194,8 @@ module _ (S D : Datatype) (fs : WellFormed S) (fd : WellFormed D) (path : hasPat
         → (b a : ℕ) (x y : Leaf) → matchAt S D b ≡ matched a x y → numberIn x a (convertedRecord D S (reading D S out) bg′) ≡ numberIn x a r
     back-same out bg′ o h′ b a x y m =
         let n : matchAt D S a ≡ matched b y x = match-back S D fs fd b a x y m in
-        read-converted D S fd fs (reading D S out) a b y x (numberIn y b out) n (reading-at D S out a b y x n) bg′ h′
+        read-converted D S fd fs (reading D S out) a b y x (numberIn y b out) n (reading-at D S out a b y x n)
+        (read-in-range y b out (match-formed D S fd fs a b y x n .0)) bg′ h′
         ∙ rw o (leaf-returns b a x y m .same)
 
   -- two records that raised nothing and became the same bytes have the same matched numbers

@@ -5,9 +5,10 @@ use Prim.Native.Nat.{ℕ, _-_, _^_}
 use lib.IntN.{ℤ}
 use Rattle.layout.specs.declared.Layout.{Layout}
 use Rattle.number.specs.declared.Fitted.{Fitted}
-use Rattle.number.specs.Number.{numberAt, fitted}
+use Rattle.number.specs.Number.{numberAt, bitsOf, fitted}
+use Rattle.reals.specs.Convert.{intToReal, realToInt, realToReal}
 use Rattle.datatype.specs.Datatype.{Symbol, Leaf, layoutOf}
-use Rattle.datatype.specs.Datatype.Leaf.{atomic, enumeration}
+use Rattle.datatype.specs.Datatype.Leaf.{atomic, enumeration, real}
 use Rattle.datatype.specs.Symbols.{onSome, symbolOf, numberOf}
 
 -- the number in leaf x where it starts at byte a of the record r
@@ -17,6 +18,7 @@ numberIn x a r = numberAt (layoutOf x) a r
 abbrev pub symbols : Leaf → List Symbol
 symbols (atomic l) = []
 symbols (enumeration l ss) = ss
+symbols (real l) = []
 
 -- "number to symbol, symbol to the destination's number"
 abbrev pub translated : List Symbol → List Symbol → ℤ → Option ℤ
@@ -26,7 +28,24 @@ translated ss ts z = onSome (λ x. numberOf x ts) none (symbolOf z ss)
 abbrev pub untranslated : Layout → Fitted
 untranslated l = record { raw = 2 ^ l .precision - 1; kind = 3 }
 
+-- document 02, 2026-03: "A real's matched number is its 64 bits"
+abbrev pub realBits : ℤ → ℕ
+realBits z = bitsOf 64 z
+
+-- what a number becomes in an int or bits of layout l, by the leaf that it comes from: "Real to int" where that is a real
+abbrev pub intoAtomic : Leaf → Layout → ℤ → Fitted
+intoAtomic (atomic k) l z = fitted l z
+intoAtomic (enumeration k ss) l z = fitted l z
+intoAtomic (real k) l z = realToInt l (realBits z)
+
+-- and in a real: "Real to real copies all 64 bits. Int to real gives the nearest double"
+abbrev pub intoReal : Leaf → ℤ → Fitted
+intoReal (atomic k) z = intToReal z
+intoReal (enumeration k ss) z = intToReal z
+intoReal (real k) z = realToReal (realBits z)
+
 -- what the number z of the source leaf x becomes in the destination leaf y: its significant bits, and the kind of the exception, 0 for none
 abbrev pub converted : Leaf → Leaf → ℤ → Fitted
-converted x (atomic l) z = fitted l z
+converted x (atomic l) z = intoAtomic x l z
 converted x (enumeration l ts) z = onSome (fitted l) (untranslated l) (translated (symbols x) ts z)
+converted x (real l) z = intoReal x z

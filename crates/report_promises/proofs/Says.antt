@@ -15,9 +15,11 @@ use Rattle.datatype.specs.Datatype.{Leaf, Datatype, size}
 use Rattle.datatype.specs.Datatype.Leaf.{atomic}
 use Rattle.datatype.specs.Matches.{matchAt}
 use Rattle.datatype.specs.Matches.Match.{unmatched, matched}
+use Rattle.datatype.proofs.Matches.{match-formed}
 use Rattle.records.specs.Leaf.{numberIn}
 use Rattle.records.specs.Records.{recordAt, readings, exceptions}
 use Rattle.records.specs.Records as records
+use Rattle.records.proofs.OneLeaf.{InRange, read-in-range}
 use Rattle.records.proofs.OneRecord.{reading-at, read-converted}
 use Rattle.records.proofs.ManyRecords.{record-length, converted-in}
 use Rattle.runs.specs.Run.Checked.{passed}
@@ -50,11 +52,12 @@ module _ (c : Call) (S D : Datatype) (e : checks c ≡ passed S D) where
     stands i h =
         let z : ℤ = numberIn x a (recordAt (size S) i (c .log)) in
         let r : readings S D (c .log) i b ≡ some z = reading-at S D (recordAt (size S) i (c .log)) b a x y m in
+        let fits : InRange x z = read-in-range x a (recordAt (size S) i (c .log)) (match-formed S D (source-formed c S D e) (reader-formed c S D e) b a x y m .0) in
         sample-matched S D b (readings S D (c .log) i) a x y z m r
         ∙ ap (λ (w : ℤ). some w)
         (sym
         (ap (numberIn y b) (converted-in S D (source-formed c S D e) (reader-formed c S D e) n (readings S D (c .log)) (c .background) (background-room c S D e) i (logAfter c) converted-bytes h)
-        ∙ read-converted S D (source-formed c S D e) (reader-formed c S D e) (readings S D (c .log) i) b a x y z m r (recordAt (size D) i (c .background))
+        ∙ read-converted S D (source-formed c S D e) (reader-formed c S D e) (readings S D (c .log) i) b a x y z m r fits (recordAt (size D) i (c .background))
         (record-length (size D) n i (c .background) (background-room c S D e) h)))
 
     samples-stand : (k : ℕ) → k ≤ n → samplesOf S D b k (readings S D (c .log)) ≡ numbersIn y b (size D) k (logAfter c)

@@ -1,5 +1,5 @@
--- Document 02, 2026-01: worked calls of the report, as one statement over one list, which the checker computes. The numbers are those of an independent model.
--- Assumes nothing.
+-- Document 02, 2026-01 and 2026-03: worked calls of the report, as one statement over one list, which the checker computes. The numbers are those of an
+-- independent model. Assumes nothing.
 use mathlib.Core.Path.{_≡_, refl}
 use mathlib.Core.List.{List, [], _∷_, _++_, map}
 use Prim.Native.Nat.{ℕ}
@@ -11,6 +11,9 @@ use Rattle.datatype.specs.Symbols.{symbolOf, numberOf as numberNamed}
 use Rattle.datatype.specs.Leaves as leaves
 use Rattle.datatype.specs.Paths as paths
 use Rattle.datatype.specs.Matches as matches
+use Rattle.reals.specs.Worth as worths
+use Rattle.reals.specs.Nearest as nearest
+use Rattle.reals.specs.Convert as reals
 use Rattle.text.specs.Text as text
 use Rattle.text.specs.Text.{bytes}
 use Rattle.text.specs.Field as fields
@@ -62,6 +65,19 @@ reader = "int\t1\tLE\t0\t8\tzero\tzero\tsigned\nint\t2\tLE\t0\t16\tzero\tzero\tu
 
 abbrev wide : String
 wide = "int\t8\tLE\t0\t33\tzero\tzero\tsigned\n"
+
+-- boost as a double, and oil; the reader's oil is a double, and its gear is not logged
+abbrev loggedReals : String
+loggedReals = "real\t8\tBE\nint\t8\tLE\t0\t64\tzero\tzero\tunsigned\ncomp\t16\nmember\tboost\t0\t0\nmember\toil\t8\t1\n"
+
+abbrev readerReals : String
+readerReals = "real\t8\tLE\nint\t1\tLE\t0\t8\tzero\tzero\tsigned\ncomp\t10\nmember\toil\t0\t0\nmember\tgear\t8\t1\nmember\tboost\t9\t1\n"
+
+-- boost −12.5 and oil 2^53 + 1, then a not-a-number and 3
+abbrev realRecords : List ℕ
+realRecords =
+    192 ∷ 41 ∷ 0 ∷ 0 ∷ 0 ∷ 0 ∷ 0 ∷ 0 ∷ 1 ∷ 0 ∷ 0 ∷ 0 ∷ 0 ∷ 0 ∷ 32 ∷ 0
+    ∷ 127 ∷ 248 ∷ 0 ∷ 0 ∷ 0 ∷ 0 ∷ 0 ∷ 0 ∷ 3 ∷ 0 ∷ 0 ∷ 0 ∷ 0 ∷ 0 ∷ 0 ∷ 0 ∷ []
 
 -- one record: boost 20, gear 6
 abbrev oneRecord : List ℕ
@@ -149,10 +165,24 @@ rows =
             output = bytes "at\tlowest\thighest\tsum\tsamples\n0\t-\t-\t-4503599627370496\t0\n2\t6\t6\t24\t1\n4\t-128\t20\t-81\t4\n" ++ replicate 16 0;
           };
     }
+    -- the reader's real has no line; a real gives the int that it is read into samples like any other, and all three exceptions are counted
+    ∷ record {
+      call = lent loggedReals readerReals 2 realRecords (replicate 20 1) (pos 0 ∷ pos 0 ∷ none ++ none ++ (pos 77 ∷ [])) 60;
+      result =
+          record {
+            number = 0;
+            length = 54;
+            log =
+                0 ∷ 0 ∷ 0 ∷ 0 ∷ 0 ∷ 0 ∷ 64 ∷ 67 ∷ 1 ∷ 244
+                ∷ 0 ∷ 0 ∷ 0 ∷ 0 ∷ 0 ∷ 0 ∷ 8 ∷ 64 ∷ 1 ∷ 0 ∷ replicate 12 0;
+            memory = pos 2 ∷ pos 3 ∷ none ++ row (negsuc 11) (pos 0) (negsuc 11) (pos 2) ++ (pos 77 ∷ []);
+            output = bytes "at\tlowest\thighest\tsum\tsamples\n8\t-\t-\t0\t0\n9\t-12\t0\t-12\t2\n" ++ replicate 6 0;
+          };
+    }
     -- 10 before 5
     ∷ record { call = lent logged wide 0 [] [] three 54; result = refusal 10 three 54 }
     ∷ []
 
 worked : map (λ (r : Row). made (r .call)) rows ≡ map (λ (r : Row). r .result) rows
-unfolding rows lent made row memoryOf refusal same symbolOf numberNamed leaves.within leaves.leafAt paths.memberNamed paths.hasPath matches.matchAt text.split fields.digits fields.decimal fields.number fields.enumNumber fields.decimalIn fields.eachPrintable fields.name line.column line.order line.pad line.sign line.layoutColumns line.intLine line.bitsLine line.enumLineOf line.valueLineOf line.compoundLineOf line.memberLineOf line.numbers line.arrayLineOf line.lineKind line.lineOf sheet.typeNumbered sheet.isApart sheet.judge sheet.linesFrom sheet.outcomeOf sheet.sheetOf one.reading one.withLeaf one.withLeavesBelow one.kindAt one.raisedBelow many.joined many.exceptions channels.channelsFrom channels.allNarrow channels.sampleAt reports.rowAfter reports.rowsAfter reports.rowsFrom reports.rowsWords reports.goodRows reports.takes shown.lines shown.shown calls.reportOf calls.checks calls.answer calls.logAfter calls.memoryAfter calls.outputAfter
+unfolding rows lent made row memoryOf refusal same symbolOf numberNamed leaves.within leaves.leafAt paths.memberNamed paths.hasPath matches.matchAt text.split fields.digits fields.decimal fields.number fields.enumNumber fields.decimalIn fields.eachPrintable fields.name line.column line.order line.pad line.sign line.layoutColumns line.intLine line.bitsLine line.enumLineOf line.valueLineOf line.compoundLineOf line.memberLineOf line.numbers line.arrayLineOf line.realLineOf line.lineKind line.lineOf sheet.typeNumbered sheet.isApart sheet.judge sheet.linesFrom sheet.outcomeOf sheet.sheetOf worths.worth nearest.highest nearest.magnitudeBits reals.intToReal reals.realToIntOf one.reading one.withLeaf one.withLeavesBelow one.kindAt one.raisedBelow many.joined many.exceptions channels.channelsFrom channels.allNarrow channels.sampleAt reports.rowAfter reports.rowsAfter reports.rowsFrom reports.rowsWords reports.goodRows reports.takes shown.lines shown.shown calls.reportOf calls.checks calls.answer calls.logAfter calls.memoryAfter calls.outputAfter
 worked = refl

@@ -1,4 +1,5 @@
-// A worked season: three logs of two source sheets and one of no records, each added to one report.
+// A worked season: three logs of two source sheets and one of no records, each added to one report; and a log with a double, beside a reader's double.
+use answer::Answer;
 use libc::STDOUT_FILENO;
 use report::report;
 use shown::show;
@@ -28,7 +29,19 @@ fn show_word(memory: &[i64], k: usize) {
     }
 }
 
-// Adds a log: the answer, the log's bytes, the report, and the records and exceptions that the memory holds.
+// A call: the answer, the log's bytes, the report, and the records and exceptions that the memory holds.
+fn show_added(name: &[u8], a: Answer, log: &[u8], output: &[u8], memory: &[i64]) {
+    show(name);
+    show_answer(a);
+    show_bytes(log);
+    show_text(output);
+    show(b"held");
+    show_word(memory, 0);
+    show_word(memory, 1);
+    show(b"\n");
+}
+
+// Adds a log.
 fn add(name: &[u8], source_sheet: &[u8], count: u64, log: &mut [u8], memory: &mut [i64]) {
     let mut output = [0u8; 256];
     let mut table = [7u32; 8192];
@@ -42,14 +55,7 @@ fn add(name: &[u8], source_sheet: &[u8], count: u64, log: &mut [u8], memory: &mu
         &mut output,
         &mut table,
     );
-    show(name);
-    show_answer(a);
-    show_bytes(log);
-    show_text(&output);
-    show(b"held");
-    show_word(memory, 0);
-    show_word(memory, 1);
-    show(b"\n");
+    show_added(name, a, log, &output, memory);
 }
 
 // Boost of two bytes, which can pass the reader's one; oil; a valve of other numbers; no fuel.
@@ -116,6 +122,43 @@ fn season() {
     add_second(b"no records", 0, &mut none, &mut memory);
 }
 
+// Boost of 255.5, read into one byte, and oil of 2^53 + 1, read into a double, which has no line.
+fn reals() {
+    let mut memory = [0i64; 6];
+    let mut log = [
+        0x40u8,
+        0x6F,
+        0xF0,
+        0x00,
+        0x00,
+        0x00,
+        0x00,
+        0x00,
+        0x01,
+        0x00,
+        0x00,
+        0x00,
+        0x00,
+        0x00,
+        0x20,
+        0x00,
+    ];
+    let mut output = [0u8; 64];
+    let mut table = [7u32; 8192];
+    let a = report(
+        b"real\t8\tBE\nint\t8\tLE\t0\t64\tzero\tzero\tunsigned\ncomp\t16\nmember\tboost\t0\t0\nmember\toil\t8\t1\n",
+        b"real\t8\tLE\nint\t1\tLE\t0\t8\tzero\tzero\tunsigned\ncomp\t10\nmember\toil\t0\t0\nmember\tboost\t9\t1\n",
+        1,
+        &mut log,
+        b"\x11\x11\x11\x11\x11\x11\x11\x11\x11\x11",
+        &mut memory,
+        &mut output,
+        &mut table,
+    );
+    show_added(b"a log of reals", a, &log, &output, &memory);
+}
+
 fn main() {
     season();
+    reals();
 }

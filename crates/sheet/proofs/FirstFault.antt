@@ -10,8 +10,8 @@ use lib.ListN.{length}
 use lib.Dec.{leb, ltb, eqb}
 use borrow.Author.Tests.{leb-true, leb-false, le-leb, lt-leb, eqb-true, eqb-false, ne-eqb}
 use Rattle.layout.specs.Layout.{valid}
-use Rattle.datatype.specs.Datatype.{Datatype}
-use Rattle.datatype.specs.Datatype.Leaf.{atomic}
+use Rattle.datatype.specs.Datatype.{Datatype, binary64}
+use Rattle.datatype.specs.Datatype.Leaf.{atomic, real}
 use Rattle.datatype.specs.Datatype.Datatype.{leaf, compound}
 use Rattle.datatype.specs.Datatype.Members.{empty}
 use Rattle.datatype.specs.Symbols.{onSome}
@@ -19,7 +19,7 @@ use Rattle.datatype.proofs.Tests.{nothing}
 use Rattle.text.specs.Text.{newline, before, split}
 use Rattle.text.specs.Field.{when, _>>=_}
 use Rattle.line.specs.Line.{Line, lineOf}
-use Rattle.line.specs.Line.Line.{atomicLine, enumLine, valueLine, compoundLine, memberLine, arrayLine}
+use Rattle.line.specs.Line.Line.{atomicLine, enumLine, valueLine, compoundLine, memberLine, arrayLine, realLine}
 use Rattle.sheet.specs.Sheet.{SoFar, typeNumbered, addType, addRow, enumOf, withValue, withMember, arrayOf, onNewest, older, judgedAfter, judge, isNil, ended, linesFrom, outcomeOf, Sheet, newest, typed, sheetOf}
 use Rattle.sheet.specs.Sheet.Outcome.{accepted, faulty}
 use Rattle.sheet.specs.Sheet.Sheet.{ofType, faultyAt}
@@ -55,6 +55,7 @@ line-some s (memberLine x offset k) e =
     let c = then-gave (typeNumbered k (older (s .types))) (λ T. onNewest (withMember x offset T) s (s .types)) e in
     changed s (withMember x offset (c .0)) (s .types) (c .2)
 line-some s (arrayLine k ds) e = added s (typeNumbered k (s .types) >>= arrayOf ds) e
+line-some s (realLine z o) e = added s (when (eqb z 8) (leaf (real (binary64 o)))) e
 
 judge-some : (s : SoFar) (line : List ℕ) {t : SoFar} → judge s line ≡ some t → SomeType t
 unfolding judge

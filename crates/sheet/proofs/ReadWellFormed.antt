@@ -17,8 +17,8 @@ use Rattle.layout.proofs.Valid.{facts}
 use Rattle.layout.specs.Layout.{maySign, valid, Valid}
 use Rattle.layout.specs.Setters.{isInt}
 use Rattle.number.specs.Number.{fitted}
-use Rattle.datatype.specs.Datatype.{Datatype, Members, size, elements}
-use Rattle.datatype.specs.Datatype.Leaf.{atomic, enumeration}
+use Rattle.datatype.specs.Datatype.{binary64, Datatype, Members, size, elements}
+use Rattle.datatype.specs.Datatype.Leaf.{atomic, enumeration, real}
 use Rattle.datatype.specs.Datatype.Datatype.{leaf, compound, array}
 use Rattle.datatype.specs.Datatype.Members.{empty, member}
 use Rattle.datatype.specs.Symbols.{onSome, symbolOf, numberOf}
@@ -29,7 +29,7 @@ use Rattle.datatype.proofs.Tests.{nothing, and-true}
 use Rattle.text.specs.Text.{newline, split}
 use Rattle.text.specs.Field.{when, _>>=_}
 use Rattle.line.specs.Line.{Line, lineOf}
-use Rattle.line.specs.Line.Line.{atomicLine, enumLine, valueLine, compoundLine, memberLine, arrayLine}
+use Rattle.line.specs.Line.Line.{atomicLine, enumLine, valueLine, compoundLine, memberLine, arrayLine, realLine}
 use Rattle.sheet.specs.Sheet.{SoFar, typeNumbered, addType, addRow, enumOf, isNone, mayList, withValue, isApart, mayPlace, withMember, eachSome, arrayOf, onNewest, older, judgedAfter, judge, Outcome, isNil, linesFrom, outcomeOf, newest, typed, sheetOf}
 use Rattle.sheet.specs.Sheet.Outcome.{accepted, faulty}
 use Rattle.sheet.specs.Sheet.Sheet.{ofType}
@@ -86,6 +86,7 @@ enum-formed (leaf (atomic l)) w e =
     let g = when-gave (isInt (l .class)) (leaf (enumeration l [])) e in
     subst WellFormed (g .1) (record { base = w; int = an-int (l .class) (g .0); symbols = tt })
 enum-formed (leaf (enumeration l ss)) w e = nothing e
+enum-formed (leaf (real l)) w e = nothing e
 enum-formed (compound z ms) w e = nothing e
 enum-formed (array z ds T) w e = nothing e
 
@@ -108,6 +109,7 @@ value-formed x z (leaf (enumeration l ss)) w e =
         w .symbols,
       );
     })
+value-formed x z (leaf (real l)) w e = nothing e
 value-formed x z (compound s ms) w e = nothing e
 value-formed x z (array s ds T) w e = nothing e
 
@@ -210,6 +212,10 @@ line-keeps s (arrayLine k ds) w e =
     let c = then-gave (typeNumbered k (s .types) >>= arrayOf ds) (addType s) e in
     let d = then-gave (typeNumbered k (s .types)) (arrayOf ds) (c .1) in
     added s (c .0) w (array-formed ds (d .0) (numbered k (s .types) w (d .1)) (d .2)) (c .2)
+line-keeps s (realLine z o) w e =
+    let c = then-gave (when (eqb z 8) (leaf (real (binary64 o)))) (addType s) e in
+    let g = when-gave (eqb z 8) (leaf (real (binary64 o))) (c .1) in
+    added s (c .0) w (subst WellFormed (g .1) refl) (c .2)
 
 pub judge-keeps : (s : SoFar) (text : List ℕ) {t : SoFar} → EachWellFormed (s .types) → judge s text ≡ some t → EachWellFormed (t .types)
 unfolding judge

@@ -11,8 +11,8 @@ use Rattle.layout.specs.declared.Layout.{Layout}
 use Rattle.layout.specs.Layout.{valid}
 use Rattle.layout.specs.Setters.{isInt}
 use Rattle.number.specs.Number.{fitted}
-use Rattle.datatype.specs.Datatype.{Symbol, Leaf, Datatype, Members, size, elements}
-use Rattle.datatype.specs.Datatype.Leaf.{atomic, enumeration}
+use Rattle.datatype.specs.Datatype.{Symbol, Leaf, binary64, Datatype, Members, size, elements}
+use Rattle.datatype.specs.Datatype.Leaf.{atomic, enumeration, real}
 use Rattle.datatype.specs.Datatype.Datatype.{leaf, compound, array}
 use Rattle.datatype.specs.Datatype.Members.{empty, member}
 use Rattle.datatype.specs.Symbols.{onSome, symbolOf, numberOf}
@@ -21,7 +21,7 @@ use Rattle.text.specs.Text.{newline, split}
 use Rattle.text.specs.Field.{when, _>>=_}
 use Rattle.line.specs.Line.{Line, lineOf}
 pub use Rattle.line.specs.Read.{eachPositive as eachSome}
-use Rattle.line.specs.Line.Line.{atomicLine, enumLine, valueLine, compoundLine, memberLine, arrayLine}
+use Rattle.line.specs.Line.Line.{atomicLine, enumLine, valueLine, compoundLine, memberLine, arrayLine, realLine}
 
 -- what the lines before a line gave: the types, the newest first, and how many value and member lines there were
 pub record SoFar : Type 0 where
@@ -47,6 +47,7 @@ addRow s older T = when (ltb (s .rows) 256) (record { types = T ∷ older; rows 
 abbrev pub enumOf : Datatype → Option Datatype
 enumOf (leaf (atomic l)) = when (isInt (l .class)) (leaf (enumeration l []))
 enumOf (leaf (enumeration l ss)) = none
+enumOf (leaf (real l)) = none
 enumOf (compound z ms) = none
 enumOf (array z ds T) = none
 
@@ -61,6 +62,7 @@ mayList l ss x z = isNone (numberOf x ss) && isNone (symbolOf z ss) && eqb (fitt
 abbrev pub withValue : List ℕ → ℤ → Datatype → Option Datatype
 withValue x z (leaf (atomic l)) = none
 withValue x z (leaf (enumeration l ss)) = when (mayList l ss x z) (leaf (enumeration l (record { name = x; number = z } ∷ ss)))
+withValue x z (leaf (real l)) = none
 withValue x z (compound s ms) = none
 withValue x z (array s ds T) = none
 
@@ -107,6 +109,7 @@ judgedAfter s (valueLine x z) = onNewest (withValue x z) s (s .types)
 judgedAfter s (compoundLine z) = when (leb 1 z && leb z 4096) (compound z empty) >>= addType s
 judgedAfter s (memberLine x offset k) = typeNumbered k (older (s .types)) >>= λ T. onNewest (withMember x offset T) s (s .types)
 judgedAfter s (arrayLine k ds) = typeNumbered k (s .types) >>= arrayOf ds >>= addType s
+judgedAfter s (realLine z o) = when (eqb z 8) (leaf (real (binary64 o))) >>= addType s
 
 unfoldable pub judge : SoFar → List ℕ → Option SoFar
 judge s text = lineOf text >>= judgedAfter s

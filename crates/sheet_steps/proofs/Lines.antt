@@ -6,27 +6,28 @@ use mathlib.Core.Option.{none}
 use Prim.Native.Nat.{ℕ, zero, suc, _-_, _*_, _<_, _≤_}
 use native.Mathlib.Numerals.{sub-one}
 use native.Mathlib.Omega.{arith}
-use borrow.Author.Tests.{lt-ltb, le-ltb, le-leb, lt-leb, ne-eqb, eqb-true, eqb-false}
+use borrow.Author.Tests.{lt-ltb, le-ltb, le-leb, lt-leb, eq-eqb, ne-eqb, eqb-true, eqb-false}
 use lib.Dec.{eqb, ltb, leb}
 use lib.IntN.{ℤ}
 use lib.ListN.{getD, length}
+use Rattle.bits.specs.declared.Order.{Order}
 use Rattle.layout.specs.declared.Class.{Class}
 use Rattle.layout.specs.declared.Class.the-variants.{Int, Bits}
 use Rattle.layout.specs.declared.Layout.{Layout}
 use Rattle.layout.specs.Layout.{valid}
 use Rattle.layout.specs.Setters.{isInt}
 use Rattle.number.specs.Parts.{signedBy}
-use Rattle.datatype.specs.Datatype.{Datatype, size, elements}
-use Rattle.datatype.specs.Datatype.Leaf.{atomic, enumeration}
+use Rattle.datatype.specs.Datatype.{binary64, Datatype, size, elements}
+use Rattle.datatype.specs.Datatype.Leaf.{atomic, enumeration, real}
 use Rattle.datatype.specs.Datatype.Datatype.{leaf, compound, array}
 use Rattle.datatype.specs.Datatype.Members.{member}
 use Rattle.text.specs.Field.{when, _>>=_}
-use Rattle.line.specs.Line.Line.{atomicLine, enumLine, valueLine, compoundLine, memberLine, arrayLine}
+use Rattle.line.specs.Line.Line.{atomicLine, enumLine, valueLine, compoundLine, memberLine, arrayLine, realLine}
 use Rattle.table.specs.Table.{classWord, sizeWord, baseWord, dimensionsAt, firstWord, rowsWord, classOf, layoutAt, bytesAt, symbolsAt, membersAt, upToZero, node, typeAt, typesAt, Holds}
-use Rattle.table.specs.Records.{classCode, layoutRecord, atomicRecord, enumRecord, compoundRecord, arrayRecord, valueRecord, memberRecord}
+use Rattle.table.specs.Records.{classCode, layoutRecord, atomicRecord, realRecord, enumRecord, compoundRecord, arrayRecord, valueRecord, memberRecord}
 use Rattle.layout.proofs.Edits.{fails, holds}
 use Rattle.table.proofs.Keeps.{type-is}
-use Rattle.table.proofs.Made.{node-array, node-compound, node-enum, node-leaf, atomic-made, enum-made, compound-made, array-made, member-made, value-made}
+use Rattle.table.proofs.Made.{node-array, node-compound, node-enum, node-real, node-leaf, atomic-made, real-made, enum-made, compound-made, array-made, member-made, value-made}
 use Rattle.sheet_steps.specs.declared.Judged.{Judged}
 use Rattle.sheet.specs.Sheet.{SoFar, enumOf, withValue, withMember, mayList, mayPlace, addType, addRow, typeNumbered, judgedAfter}
 use Rattle.sheet_steps.specs.Judged.{soFarAt, Judges}
@@ -49,17 +50,32 @@ unfolding layoutRecord
 atomic-judged {w} {n = n} {m = m} t l h test kept e added =
     rw (holds test kept) (typed t h (rw e at added) refl (λ x. absurd (no-four (l .class) x)) refl refl (λ x. atomic-made w n x (h .words) (typeAt w t) t l m))
 
+-- ---- reals
+
+pub real-size : {l : Layout} (o : Order) → l ≡ binary64 o → l .size .0 < 4294967296
+real-size o e = rw e (omega arith)
+
+pub real-judged : {w v r : List ℕ} {n m z : ℕ} {j : Judged} {l : Layout} (t : List ℕ) (o : Order) → Holds w n m → z ≡ 8 → l ≡ binary64 o → r ≡ realRecord l m → TypeAdded w v n m r j
+    → Judges v t (judgedAfter (soFarAt w t n m) (realLine z o)) j
+unfolding layoutRecord
+real-judged {w} {n = n} {m = m} {z = z} t o h e is er added =
+    rw (eq-eqb z 8 e) (typed t h (rw (er, is) at added) refl (λ x. omega arith) refl refl (λ x. real-made w n x (h .words) (typeAt w t) t (binary64 o) m refl))
+
+pub real-other : {z : ℕ} (s : SoFar) (o : Order) → (z ≡ 8 → ⊥) → judgedAfter s (realLine z o) ≡ none
+real-other {z} s o ne = rw (ne-eqb z 8 ne)
+
 -- ---- enums
 
-int-is : (c : ℕ) → (c ≡ 4 → ⊥) → (c ≡ 3 → ⊥) → (c ≡ 2 → ⊥) → isInt (classOf c) ≡ (eqb c 0 || ltb 4 c)
-int-is zero x y z = refl
-int-is (suc zero) x y z = refl
-int-is (suc (suc zero)) x y z = absurd (z refl)
-int-is (suc (suc (suc zero))) x y z = absurd (y refl)
-int-is (suc (suc (suc (suc zero)))) x y z = absurd (x refl)
-int-is (suc (suc (suc (suc (suc c))))) x y z =
-    let k : ℕ = suc (suc (suc (suc (suc c)))) in
-    rw (ne-eqb k 1 (λ e. omega arith), ne-eqb k 0 (λ e. omega arith), lt-ltb 4 k (omega arith)) refl
+int-is : (c : ℕ) → (c ≡ 4 → ⊥) → (c ≡ 3 → ⊥) → (c ≡ 2 → ⊥) → (c ≡ 5 → ⊥) → isInt (classOf c) ≡ (eqb c 0 || ltb 5 c)
+int-is zero x y z u = refl
+int-is (suc zero) x y z u = refl
+int-is (suc (suc zero)) x y z u = absurd (z refl)
+int-is (suc (suc (suc zero))) x y z u = absurd (y refl)
+int-is (suc (suc (suc (suc zero)))) x y z u = absurd (x refl)
+int-is (suc (suc (suc (suc (suc zero))))) x y z u = absurd (u refl)
+int-is (suc (suc (suc (suc (suc (suc c)))))) x y z u =
+    let k : ℕ = suc (suc (suc (suc (suc (suc c))))) in
+    rw (ne-eqb k 1 (λ e. omega arith), ne-eqb k 0 (λ e. omega arith), lt-ltb 5 k (omega arith)) refl
 
 module _ (D : ℕ → Datatype) (w t : List ℕ) (i : ℕ) where
   -- what holds of a type of each class holds of type i
@@ -67,26 +83,30 @@ module _ (D : ℕ → Datatype) (w t : List ℕ) (i : ℕ) where
       → (classWord w i ≡ 4 → P (array (sizeWord w i) (dimensionsAt w i) (D (baseWord w i))))
       → (classWord w i ≡ 3 → P (compound (sizeWord w i) (membersAt D w t (firstWord w i) (rowsWord w i))))
       → (classWord w i ≡ 2 → P (leaf (enumeration (layoutAt w i) (symbolsAt w t (firstWord w i) (rowsWord w i)))))
-      → ((classWord w i ≡ 4 → ⊥) → (classWord w i ≡ 3 → ⊥) → (classWord w i ≡ 2 → ⊥) → P (leaf (atomic (layoutAt w i)))) → P (node D w t i)
-  by-class P a b c d = go (eqb (classWord w i) 4) (eqb (classWord w i) 3) (eqb (classWord w i) 2) refl refl refl
+      → (classWord w i ≡ 5 → P (leaf (real (layoutAt w i))))
+      → ((classWord w i ≡ 4 → ⊥) → (classWord w i ≡ 3 → ⊥) → (classWord w i ≡ 2 → ⊥) → (classWord w i ≡ 5 → ⊥) → P (leaf (atomic (layoutAt w i))))
+      → P (node D w t i)
+  by-class P a b c d f = go (eqb (classWord w i) 4) (eqb (classWord w i) 3) (eqb (classWord w i) 2) (eqb (classWord w i) 5) refl refl refl refl
     where
-      go : (x y z : Bool) → eqb (classWord w i) 4 ≡ x → eqb (classWord w i) 3 ≡ y → eqb (classWord w i) 2 ≡ z → P (node D w t i)
-      go true y z p q r = subst P (sym (node-array D w t i (eqb-true _ _ p))) (a (eqb-true _ _ p))
-      go false true z p q r = subst P (sym (node-compound D w t i (eqb-true _ _ q))) (b (eqb-true _ _ q))
-      go false false true p q r = subst P (sym (node-enum D w t i (eqb-true _ _ r))) (c (eqb-true _ _ r))
-      go false false false p q r = subst P (sym (node-leaf D w t i (eqb-false _ _ p) (eqb-false _ _ q) (eqb-false _ _ r))) (d (eqb-false _ _ p) (eqb-false _ _ q) (eqb-false _ _ r))
+      go : (x y z u : Bool) → eqb (classWord w i) 4 ≡ x → eqb (classWord w i) 3 ≡ y → eqb (classWord w i) 2 ≡ z → eqb (classWord w i) 5 ≡ u → P (node D w t i)
+      go true y z u p q r s = subst P (sym (node-array D w t i (eqb-true _ _ p))) (a (eqb-true _ _ p))
+      go false true z u p q r s = subst P (sym (node-compound D w t i (eqb-true _ _ q))) (b (eqb-true _ _ q))
+      go false false true u p q r s = subst P (sym (node-enum D w t i (eqb-true _ _ r))) (c (eqb-true _ _ r))
+      go false false false true p q r s = subst P (sym (node-real D w t i (eqb-true _ _ s))) (d (eqb-true _ _ s))
+      go false false false false p q r s =
+          subst P (sym (node-leaf D w t i (eqb-false _ _ p) (eqb-false _ _ q) (eqb-false _ _ r) (eqb-false _ _ s))) (f (eqb-false _ _ p) (eqb-false _ _ q) (eqb-false _ _ r) (eqb-false _ _ s))
 
   enum-of : enumOf (node D w t i) ≡ when (isIntAt w i) (leaf (enumeration (layoutAt w i) []))
   unfolding isIntAt layoutAt
   enum-of =
-      by-class (λ (T : Datatype). enumOf T ≡ when (isIntAt w i) (leaf (enumeration (layoutAt w i) []))) (λ e. rw e) (λ e. rw e) (λ e. rw e)
-      (λ a b c. ap (λ (x : Bool). when x (leaf (enumeration (layoutAt w i) []))) (int-is (classWord w i) a b c))
+      by-class (λ (T : Datatype). enumOf T ≡ when (isIntAt w i) (leaf (enumeration (layoutAt w i) []))) (λ e. rw e) (λ e. rw e) (λ e. rw e) (λ e. rw e)
+      (λ a b c d. ap (λ (x : Bool). when x (leaf (enumeration (layoutAt w i) []))) (int-is (classWord w i) a b c d))
 
   int-class : isIntAt w i ≡ true → layoutAt w i .class ≡ Int
   unfolding isIntAt layoutAt
   int-class e = go (classWord w i) e
     where
-      go : (c : ℕ) → (eqb c 0 || ltb 4 c) ≡ true → classOf c ≡ Int
+      go : (c : ℕ) → (eqb c 0 || ltb 5 c) ≡ true → classOf c ≡ Int
       go zero e = refl
       go (suc zero) e = absurd (false≢true e)
       go (suc (suc c)) e = rw (ne-eqb (suc (suc c)) 1 (λ x. omega arith)) refl
@@ -182,10 +202,10 @@ module _ {w : List ℕ} {i m : ℕ} (t : List ℕ) (h : Holds w (suc i) m) where
 
 module _ (D : ℕ → Datatype) (w t : List ℕ) (i : ℕ) where
   no-value : (x : List ℕ) (z : ℤ) → (classWord w i ≡ 2 → ⊥) → withValue x z (node D w t i) ≡ none
-  no-value x z ne = by-class D w t i (λ (T : Datatype). withValue x z T ≡ none) (λ e. refl) (λ e. refl) (λ e. absurd (ne e)) (λ a b c. refl)
+  no-value x z ne = by-class D w t i (λ (T : Datatype). withValue x z T ≡ none) (λ e. refl) (λ e. refl) (λ e. absurd (ne e)) (λ e. refl) (λ a b c d. refl)
 
   no-member : (x : List ℕ) (offset : ℕ) (U : Datatype) → (classWord w i ≡ 3 → ⊥) → withMember x offset U (node D w t i) ≡ none
-  no-member x offset U ne = by-class D w t i (λ (T : Datatype). withMember x offset U T ≡ none) (λ e. refl) (λ e. absurd (ne e)) (λ e. refl) (λ a b c. refl)
+  no-member x offset U ne = by-class D w t i (λ (T : Datatype). withMember x offset U T ≡ none) (λ e. refl) (λ e. absurd (ne e)) (λ e. refl) (λ e. refl) (λ a b c d. refl)
 
 -- no type is there to get a row
 pub value-first : (w t : List ℕ) {n : ℕ} (m : ℕ) (x : List ℕ) (z : ℤ) → n ≡ 0 → judgedAfter (soFarAt w t n m) (valueLine x z) ≡ none

@@ -16,7 +16,7 @@ use Rattle.number.specs.declared.Fitted.{Fitted}
 use Rattle.number.specs.Number.{fitted, fittedTo}
 use Rattle.number.proofs.Range.{unsigned-above, signed-above, signed-below}
 use Rattle.datatype.specs.Datatype.{Symbol, Datatype}
-use Rattle.datatype.specs.Datatype.Leaf.{atomic, enumeration}
+use Rattle.datatype.specs.Datatype.Leaf.{atomic, enumeration, real}
 use Rattle.datatype.specs.Datatype.Datatype.{leaf, compound, array}
 use Rattle.datatype.specs.Symbols.{onSome}
 use Rattle.datatype.proofs.Tests.{nothing, and-true}
@@ -27,7 +27,7 @@ use Rattle.text.proofs.Until.{drop-next}
 use Rattle.text.proofs.Places.{lines-at, line-end-byte}
 use Rattle.line.specs.Line as said
 use Rattle.line.specs.Line.{lineOf}
-use Rattle.line.specs.Line.Line.{atomicLine, enumLine, valueLine, compoundLine, memberLine, arrayLine}
+use Rattle.line.specs.Line.Line.{atomicLine, enumLine, valueLine, compoundLine, memberLine, arrayLine, realLine}
 use Rattle.line.specs.declared.Line.{Line}
 use Rattle.line.specs.declared.Line.the-variants.{Value, Member}
 use Rattle.line.specs.declared.ReadLine.{ReadLine}
@@ -87,6 +87,7 @@ value-refused : (s : SoFar) (ts : List Datatype) (x : List ℕ) (z : ℤ) → Ea
 value-refused s [] x z w e = refl
 value-refused s (leaf (atomic l) ∷ ts) x z w e = refl
 value-refused s (leaf (enumeration l ss) ∷ ts) x z w e = rw (out-of-range (l .signed) (l .precision) z (w .0 .base .most) e, and-false) refl
+value-refused s (leaf (real l) ∷ ts) x z w e = refl
 value-refused s (compound u ms ∷ ts) x z w e = refl
 value-refused s (array u ds T ∷ ts) x z w e = refl
 
@@ -101,6 +102,7 @@ unreadable s (valueLine x z) w e = value-refused s (s .types) x z w e
 unreadable s (compoundLine z) w e = absurd (false≢true (sym e))
 unreadable s (memberLine x offset k) w e = absurd (false≢true (sym e))
 unreadable s (arrayLine base ds) w e = array-refused s (typeNumbered base (s .types)) base ds e
+unreadable s (realLine z o) w e = absurd (false≢true (sym e))
 
 judged-alike : (s : SoFar) (o : Option said.Line) → EachWellFormed (s .types) → ((o >>= λ x. when (readable x) x) >>= judgedAfter s) ≡ (o >>= judgedAfter s)
 judged-alike s none w = refl

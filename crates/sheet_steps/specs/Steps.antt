@@ -25,9 +25,9 @@ pub record RowAdded (w v : List ℕ) (n m : ℕ) (r : List ℕ) (j : Judged) : T
   pub result : j ≡ cond (ltb m 256) (Accepted n (m + 1)) Refused
   pub table : v ≡ cond (ltb m 256) (rowAdded w (n - 1) m r) w
 
--- type i is an int
+-- type i is an int; a class above those that the table has reads as one too
 unfoldable pub isIntAt : List ℕ → ℕ → Bool
-isIntAt w i = eqb (classWord w i) 0 || ltb 4 (classWord w i)
+isIntAt w i = eqb (classWord w i) 0 || ltb 5 (classWord w i)
 
 abbrev pub isMissing : Found → Bool
 isMissing (At j) = false

@@ -8,10 +8,9 @@ use native.Mathlib.Omega.{arith}
 use borrow.Author.Tests.{eqb-true}
 use lib.Dec.{eqb, lit<}
 use Rattle.datatype.specs.Datatype.{Symbol, Datatype, Members}
-use Rattle.datatype.specs.Datatype.Leaf.{atomic, enumeration}
 use Rattle.datatype.specs.Datatype.Datatype.{leaf, compound, array}
 use Rattle.datatype.specs.Datatype.Members.{empty, member}
-use Rattle.table.specs.Table.{typeWord, rowWord, classWord, sizeWord, baseWord, firstWord, rowsWord, offsetWord, memberTypeWord, layoutAt, nameAt, valueAt, symbolsAt, membersAt, dimensionsAt, node, decode, typeAt, typesAt, Low}
+use Rattle.table.specs.Table.{typeWord, rowWord, classWord, sizeWord, baseWord, firstWord, rowsWord, offsetWord, memberTypeWord, layoutAt, nameAt, valueAt, symbolsAt, leafOfType, membersAt, dimensionsAt, node, decode, typeAt, typesAt, Low}
 
 -- w and v agree on the types below n and the rows below m
 pub record Agree (w v : List ℕ) (n m : ℕ) : Type 0 where
@@ -36,10 +35,10 @@ module _ (w t : List ℕ) (D E : ℕ → Datatype) where
       go : (a b : Bool) → eqb (classWord w i) 4 ≡ a → eqb (classWord w i) 3 ≡ b
           → cond a (array (sizeWord w i) (dimensionsAt w i) (D (baseWord w i)))
           (cond b (compound (sizeWord w i) (membersAt D w t (firstWord w i) (rowsWord w i)))
-          (cond (eqb (classWord w i) 2) (leaf (enumeration (layoutAt w i) (symbolsAt w t (firstWord w i) (rowsWord w i)))) (leaf (atomic (layoutAt w i)))))
+          (leaf (leafOfType w t i)))
           ≡ cond a (array (sizeWord w i) (dimensionsAt w i) (E (baseWord w i)))
           (cond b (compound (sizeWord w i) (membersAt E w t (firstWord w i) (rowsWord w i)))
-          (cond (eqb (classWord w i) 2) (leaf (enumeration (layoutAt w i) (symbolsAt w t (firstWord w i) (rowsWord w i)))) (leaf (atomic (layoutAt w i)))))
+          (leaf (leafOfType w t i)))
       go true b p q = ap (array (sizeWord w i) (dimensionsAt w i)) (h (baseWord w i) (low .base (eqb-true _ _ p)))
       go false true p q =
           ap (compound (sizeWord w i))
@@ -98,13 +97,23 @@ module _ (w v t : List ℕ) {n m : ℕ} (ag : Agree w v n m) where
       )
       (ap (λ (ss : List Symbol). record { name = nameAt v t (first + k); number = valueAt v (first + k) } ∷ ss) (symbols-frame first k (omega arith)))
 
+  leaf-frame : (i : ℕ) → i < n → firstWord w i + rowsWord w i ≤ m → leafOfType w t i ≡ leafOfType v t i
+  unfolding leafOfType
+  leaf-frame i h r =
+      rw (
+        symbols-frame (firstWord w i) (rowsWord w i) r,
+        layout-frame i h,
+        ag .types i 0 h (lit< tt),
+        ag .types i 9 h (lit< tt),
+        ag .types i 10 h (lit< tt),
+      ) refl
+
   pub node-frame : (D : ℕ → Datatype) (i : ℕ) → i < n → firstWord w i + rowsWord w i ≤ m → node D w t i ≡ node D v t i
   unfolding node
   node-frame D i h r =
       rw (
         members-frame D (firstWord w i) (rowsWord w i) r,
-        symbols-frame (firstWord w i) (rowsWord w i) r,
-        layout-frame i h,
+        leaf-frame i h r,
         ag .types i 0 h (lit< tt),
         ag .types i 1 h (lit< tt),
         ag .types i 8 h (lit< tt),

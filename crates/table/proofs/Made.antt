@@ -15,11 +15,11 @@ use Rattle.layout.specs.declared.Class.the-variants.{Int, Bits}
 use Rattle.layout.specs.declared.Layout.{Layout}
 use Rattle.number.specs.Parts.{signedBy}
 use Rattle.datatype.specs.Datatype.{Datatype, size}
-use Rattle.datatype.specs.Datatype.Leaf.{atomic, enumeration}
+use Rattle.datatype.specs.Datatype.Leaf.{atomic, enumeration, real}
 use Rattle.datatype.specs.Datatype.Datatype.{leaf, compound, array}
 use Rattle.datatype.specs.Datatype.Members.{empty, member}
-use Rattle.table.specs.Table.{typeWord, classOf, flagOf, classWord, sizeWord, baseWord, firstWord, rowsWord, layoutAt, bytesAt, symbolsAt, membersAt, upToZero, dimensionsAt, node, Holds}
-use Rattle.table.specs.Records.{classCode, layoutRecord, atomicRecord, enumRecord, compoundRecord, arrayRecord, valueRecord, memberRecord, rowAdded}
+use Rattle.table.specs.Table.{typeWord, classOf, flagOf, classWord, sizeWord, baseWord, firstWord, rowsWord, layoutAt, bytesAt, symbolsAt, leafOfType, membersAt, upToZero, dimensionsAt, node, Holds}
+use Rattle.table.specs.Records.{classCode, layoutRecord, atomicRecord, realRecord, enumRecord, compoundRecord, arrayRecord, valueRecord, memberRecord, rowAdded}
 use Rattle.table.proofs.Coded.{order-back, pad-back, flag-back, class-back}
 use Rattle.table.proofs.Frames.{Agree, members-frame, symbols-frame}
 use Rattle.table.proofs.Stores.{type-made, row-made, row-before, row-types, row-counted}
@@ -36,30 +36,37 @@ module _ (D : ℕ → Datatype) (w t : List ℕ) (i : ℕ) where
   node-compound e = rw e
 
   pub node-enum : classWord w i ≡ 2 → node D w t i ≡ leaf (enumeration (layoutAt w i) (symbolsAt w t (firstWord w i) (rowsWord w i)))
-  unfolding node
+  unfolding node leafOfType
   node-enum e = rw e
 
-  pub node-leaf : (classWord w i ≡ 4 → ⊥) → (classWord w i ≡ 3 → ⊥) → (classWord w i ≡ 2 → ⊥) → node D w t i ≡ leaf (atomic (layoutAt w i))
-  unfolding node
-  node-leaf e f g = rw (ne-eqb _ _ e, ne-eqb _ _ f, ne-eqb _ _ g)
+  pub node-real : classWord w i ≡ 5 → node D w t i ≡ leaf (real (layoutAt w i))
+  unfolding node leafOfType
+  node-real e = rw e
+
+  -- any other class reads as an atomic one
+  pub node-leaf : (classWord w i ≡ 4 → ⊥) → (classWord w i ≡ 3 → ⊥) → (classWord w i ≡ 2 → ⊥) → (classWord w i ≡ 5 → ⊥)
+      → node D w t i ≡ leaf (atomic (layoutAt w i))
+  unfolding node leafOfType
+  node-leaf e f g h = rw (ne-eqb _ _ e, ne-eqb _ _ f, ne-eqb _ _ g, ne-eqb _ _ h)
 
   pub node-atomic : (k : Class) → classWord w i ≡ classCode k → node D w t i ≡ leaf (atomic (layoutAt w i))
-  node-atomic Int e = node-leaf (λ x. omega arith) (λ x. omega arith) (λ x. omega arith)
-  node-atomic Bits e = node-leaf (λ x. omega arith) (λ x. omega arith) (λ x. omega arith)
+  node-atomic Int e = node-leaf (λ x. omega arith) (λ x. omega arith) (λ x. omega arith) (λ x. omega arith)
+  node-atomic Bits e = node-leaf (λ x. omega arith) (λ x. omega arith) (λ x. omega arith) (λ x. omega arith)
 
   -- every type says its size
   pub node-size : size (node D w t i) ≡ sizeWord w i
-  unfolding node layoutAt
-  node-size = go (eqb (classWord w i) 4) (eqb (classWord w i) 3) (eqb (classWord w i) 2)
+  unfolding node leafOfType layoutAt
+  node-size = go (eqb (classWord w i) 4) (eqb (classWord w i) 3) (eqb (classWord w i) 2) (eqb (classWord w i) 5)
     where
-      go : (a b c : Bool) → size (cond a (array (sizeWord w i) (dimensionsAt w i) (D (baseWord w i)))
+      go : (a b c d : Bool) → size (cond a (array (sizeWord w i) (dimensionsAt w i) (D (baseWord w i)))
           (cond b (compound (sizeWord w i) (membersAt D w t (firstWord w i) (rowsWord w i)))
-          (cond c (leaf (enumeration (layoutAt w i) (symbolsAt w t (firstWord w i) (rowsWord w i)))) (leaf (atomic (layoutAt w i))))))
+          (leaf (cond c (enumeration (layoutAt w i) (symbolsAt w t (firstWord w i) (rowsWord w i))) (cond d (real (layoutAt w i)) (atomic (layoutAt w i)))))))
           ≡ sizeWord w i
-      go true b c = refl
-      go false true c = refl
-      go false false true = refl
-      go false false false = refl
+      go true b c d = refl
+      go false true c d = refl
+      go false false true d = refl
+      go false false false true = refl
+      go false false false false = refl
 
 -- ---- records of types
 
@@ -98,6 +105,13 @@ module _ (w : List ℕ) (i : ℕ) (room : i < 64) (words : length w ≡ 4096) wh
       let v = paste w (16 * i) (atomicRecord l first) 16 in
       node-atomic D v t i (l .class) (type-made w (atomicRecord l first) i room words refl 0 (lit< tt))
       ∙ ap (λ (k : Layout). leaf (atomic k)) (layout-made (classCode (l .class)) l first (class-back (l .class)))
+
+  pub real-made : (D : ℕ → Datatype) (t : List ℕ) (l : Layout) (first : ℕ) → l .class ≡ Int → node D (paste w (16 * i) (realRecord l first) 16) t i ≡ leaf (real l)
+  unfolding layoutRecord
+  real-made D t l first e =
+      let made = type-made w (realRecord l first) i room words refl in
+      node-real D (paste w (16 * i) (realRecord l first) 16) t i (made 0 (lit< tt))
+      ∙ ap (λ (k : Layout). leaf (real k)) (layout-made 5 l first (sym e))
 
   pub enum-made : (D : ℕ → Datatype) (t : List ℕ) (l : Layout) (first : ℕ) → l .class ≡ Int → node D (paste w (16 * i) (enumRecord l first) 16) t i ≡ leaf (enumeration l [])
   unfolding layoutRecord symbolsAt

@@ -39,6 +39,9 @@ layoutRecord c l first =
 abbrev pub atomicRecord : Layout → ℕ → List ℕ
 atomicRecord l first = layoutRecord (classCode (l .class)) l first
 
+abbrev pub realRecord : Layout → ℕ → List ℕ
+realRecord l first = layoutRecord 5 l first
+
 abbrev pub enumRecord : Layout → ℕ → List ℕ
 enumRecord l first = layoutRecord 2 l first
 

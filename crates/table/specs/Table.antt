@@ -1,5 +1,5 @@
 -- Document 01, "A lent working table of 32-bit words holds the read sheets": the datatypes that half a table, 4,096 words, stands for beside its sheet's text.
--- The record of type i has 16 words from word 16 × i on: class (0 int, 1 bits, 2 enum, 3 compound, 4 array), size, order, offset, precision, lsb, msb, signed,
+-- The record of type i has 16 words from word 16 × i on: class (0 int, 1 bits, 2 enum, 3 compound, 4 array, 5 real), size, order, offset, precision, lsb, msb, signed,
 -- base, first row, rows, four dimensions (0 for none), and one that is free. The record of row j has 8 words from word 1,024 + 8 × j on: where its name starts in
 -- the text, the name's length, and of a member its byte offset and its type's number, of a value its sign and the two halves of its distance; three are free.
 -- Any words stand for some datatypes: a word outside the records reads as 0.
@@ -20,7 +20,7 @@ use Rattle.layout.specs.declared.Layout.{Layout}
 use Rattle.number.specs.Parts.{signedBy}
 use Rattle.datatype.specs.Datatype.{Symbol, Leaf, Datatype, Members}
 pub use Rattle.datatype.specs.Datatype.{upToZero}
-use Rattle.datatype.specs.Datatype.Leaf.{atomic, enumeration}
+use Rattle.datatype.specs.Datatype.Leaf.{atomic, enumeration, real}
 use Rattle.datatype.specs.Datatype.Datatype.{leaf, compound, array}
 use Rattle.datatype.specs.Datatype.Members.{empty, member}
 
@@ -107,6 +107,13 @@ unfoldable pub symbolsAt : List ℕ → List ℕ → ℕ → ℕ → List Symbol
 symbolsAt w t first zero = []
 symbolsAt w t first (suc n) = record { name = nameAt w t (first + n); number = valueAt w (first + n) } ∷ symbolsAt w t first n
 
+-- type i where it is a leaf
+unfoldable pub leafOfType : List ℕ → List ℕ → ℕ → Leaf
+leafOfType w t i =
+    cond (eqb (classWord w i) 2) (enumeration (layoutAt w i) (symbolsAt w t (firstWord w i) (rowsWord w i)))
+    (cond (eqb (classWord w i) 5) (real (layoutAt w i))
+    (atomic (layoutAt w i)))
+
 -- ---- types
 
 -- the members in the n rows from first on, the newest first, whose types D gives by their numbers
@@ -123,8 +130,7 @@ unfoldable pub node : (ℕ → Datatype) → List ℕ → List ℕ → ℕ → D
 node D w t i =
     cond (eqb (classWord w i) 4) (array (sizeWord w i) (dimensionsAt w i) (D (baseWord w i)))
     (cond (eqb (classWord w i) 3) (compound (sizeWord w i) (membersAt D w t (firstWord w i) (rowsWord w i)))
-    (cond (eqb (classWord w i) 2) (leaf (enumeration (layoutAt w i) (symbolsAt w t (firstWord w i) (rowsWord w i))))
-    (leaf (atomic (layoutAt w i)))))
+    (leaf (leafOfType w t i)))
 
 -- type i to the depth f; what lies deeper is an empty compound. A sheet has at most 64 types and a type is made of lower ones, so 64 is deep enough
 unfoldable pub decode : ℕ → List ℕ → List ℕ → ℕ → Datatype

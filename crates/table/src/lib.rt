@@ -54,7 +54,9 @@ pub const COMPOUND: usize = 3;
 
 pub const ARRAY: usize = 4;
 
-pub const CLASSES: usize = 5;
+pub const REAL: usize = 5;
+
+pub const CLASSES: usize = 6;
 
 // The words of a row's record: where the name starts in the text and its length; of a member its byte offset and its type's number; of a value its sign and
 // the two halves of its distance from 0, or from -1 where it is negative.

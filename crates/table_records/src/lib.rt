@@ -1,7 +1,7 @@
 // The records of types and rows, as they are stored. Each type's record has the number of its first row, also where it has no rows.
 ghost use mathlib.Core.Path.{_≡_};
 ghost use Prim.Native.Nat.{_<_};
-ghost use Rattle.table.specs.Records.{layoutRecord, atomicRecord, enumRecord, compoundRecord, arrayRecord, valueRecord, memberRecord};
+ghost use Rattle.table.specs.Records.{layoutRecord, atomicRecord, realRecord, enumRecord, compoundRecord, arrayRecord, valueRecord, memberRecord};
 use layout::Layout;
 use table::codes::class_code;
 use table::codes::flag_code;
@@ -14,6 +14,8 @@ const ENUM: u32 = 2;
 const COMPOUND: u32 = 3;
 
 const ARRAY: u32 = 4;
+
+const REAL: u32 = 5;
 
 // What one of the high half of a distance is worth.
 const HIGH: u64 = 4294967296;
@@ -56,6 +58,13 @@ pub fn atomic_record(l: Layout, first: u32) -> [u32; 16]
 {
     let class = l.class;
     layout_record(class_code(class), l, first)
+}
+
+pub fn real_record(l: Layout, first: u32) -> [u32; 16]
+    requires { ⌜ l .size .0 < 4294967296 ⌝ }
+    ensures { λ r. ⌜ r ≡ realRecord l first ⌝ }
+{
+    layout_record(REAL, l, first)
 }
 
 // An enum without values.

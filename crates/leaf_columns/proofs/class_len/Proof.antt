@@ -12,5 +12,8 @@ returns-2 c = search class-laws
 returns-3 : tie.Need-returns-3
 returns-3 c = search class-laws
 
+returns-4 : tie.Need-returns-4
+returns-4 c = search class-laws
+
 pub class-len-spec : {M : Type 1} → statement M
-class-len-spec = tie.close (tie.spec returns returns-2 returns-3)
+class-len-spec = tie.close (tie.spec returns returns-2 returns-3 returns-4)

@@ -21,4 +21,5 @@ match-step-spec =
     (λ c. search walk-laws)
     (λ c. search walk-laws)
     (λ c. search walk-laws)
+    (λ c. search walk-laws)
     (λ c. search walk-laws))

@@ -11,7 +11,7 @@ use Rattle.name_ids.proofs.none_looked_up.Statement.{statement}
 use Rattle.name_ids.proofs.none_looked_up.Tie as tie
 
 abbrev Inv-loop : tie.InvT-loop
-Inv-loop words n i₀ i = (t : ℕ) → t < i → routeIn (getD words (wordsPlace t) 0) < 6
+Inv-loop words n i₀ i = (t : ℕ) → t < i → routeIn (getD words (wordsPlace t) 0) < 7
 
 abbrev μ-loop : tie.MeasureT-loop
 μ-loop words n i₀ i = n - i

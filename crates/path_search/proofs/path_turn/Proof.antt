@@ -9,6 +9,7 @@ path-turn-spec =
     (tie.spec
     (λ c κs. search turn-laws)
     (λ c κs. search turn-laws)
+    (λ c κs. search turn-laws)
     (λ c. search turn-laws)
     (λ c. search turn-laws)
     (λ c. search turn-laws)

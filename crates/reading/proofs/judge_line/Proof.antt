@@ -57,6 +57,12 @@ enum-known-line-6 c = search needs
 judge-array-requires : tie.Need-judge-array-requires
 judge-array-requires c κs = search needs
 
+enum-known-line-7 : tie.Need-enum-known-line-7
+enum-known-line-7 c = search needs
+
+judge-real-requires : tie.Need-judge-real-requires
+judge-real-requires c κs = search needs
+
 enum-told : tie.Need-enum-told
 enum-told c = search needs
 
@@ -104,8 +110,14 @@ same-length-6 c = search needs
 returns-6 : tie.Need-returns-6
 returns-6 c = rw (c .before .before .before .before .before .line6 .given .1) (c .before .before .judge-array .ensures)
 
+same-length-7 : tie.Need-same-length-7
+same-length-7 c = search needs
+
 returns-7 : tie.Need-returns-7
-returns-7 c = search needs
+returns-7 c = rw (c .before .before .before .before .before .line7 .given .1) (c .before .before .judge-real .ensures)
+
+returns-8 : tie.Need-returns-8
+returns-8 c = search needs
 
 pub judge-line-spec : {M : Type 1} → statement M
 judge-line-spec =
@@ -125,6 +137,8 @@ judge-line-spec =
     judge-member-requires
     enum-known-line-6
     judge-array-requires
+    enum-known-line-7
+    judge-real-requires
     enum-told
     same-length
     returns
@@ -138,4 +152,6 @@ judge-line-spec =
     returns-5
     same-length-6
     returns-6
-    returns-7)
+    same-length-7
+    returns-7
+    returns-8)

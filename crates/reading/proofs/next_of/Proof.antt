@@ -21,6 +21,9 @@ enum-known-line-5 c = search needs
 enum-known-line-6 : tie.Need-enum-known-line-6
 enum-known-line-6 c = search needs
 
+enum-known-line-7 : tie.Need-enum-known-line-7
+enum-known-line-7 c = search needs
+
 enum-told : tie.Need-enum-told
 enum-told c = search needs
 
@@ -45,6 +48,9 @@ returns-6 c = search needs
 returns-7 : tie.Need-returns-7
 returns-7 c = search needs
 
+returns-8 : tie.Need-returns-8
+returns-8 c = search needs
+
 pub next-of-spec : {M : Type 1} → statement M
 next-of-spec =
     tie.close
@@ -55,6 +61,7 @@ next-of-spec =
     enum-known-line-4
     enum-known-line-5
     enum-known-line-6
+    enum-known-line-7
     enum-told
     returns
     returns-2
@@ -62,4 +69,5 @@ next-of-spec =
     returns-4
     returns-5
     returns-6
-    returns-7)
+    returns-7
+    returns-8)

@@ -1,0 +1,16 @@
+pub mod Tests
+pub mod Scale
+pub mod Highest
+pub mod Rounding
+pub mod Fields
+pub mod Nearly
+pub mod Nearness
+pub mod Unique
+pub mod Kit
+pub mod Exact
+pub mod Noting
+pub mod Ends
+pub mod Back
+pub mod LeafBack
+pub mod Inexact
+pub mod Vectors

@@ -1,0 +1,5 @@
+pub mod Worth
+pub mod Compare
+pub mod Nearest
+pub mod Nearness
+pub mod Convert
