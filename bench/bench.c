@@ -11,7 +11,7 @@
 typedef int hid_t;
 #endif
 
-enum { RECORDS = 65536, CALLS = 2000, ROUNDS_MOST = 101 };
+enum { RECORDS = 65536, CALLS = 2000, ROUNDS_MOST = 101, QUARTERS = -1 };
 
 // One side of a workload: its sheet, the size of its record, and HDF5's datatype.
 typedef struct {
@@ -26,7 +26,7 @@ typedef struct {
     int calls;           // timed together
     int leaves;          // matched leaves of a record
     const char *target;  // HDF5's time by that of the copying form; of a report, its own by that of the in-place form
-    int largest;         // source bytes are random, from 0 up to this
+    int largest;         // source bytes are random, from 0 up to this; QUARTERS: doubles, random quarters that 16 bits hold once the fraction is dropped
     Side source, destination;
 } Workload;
 
@@ -49,6 +49,15 @@ static int add_int(Side *s, Int l) {
     H5Tset_size(s->h5, (size_t)l.size);
     H5Tset_offset(s->h5, (size_t)l.offset);
     H5Tset_order(s->h5, l.big ? H5T_ORDER_BE : H5T_ORDER_LE);
+#endif
+    return s->types++;
+}
+
+static int add_real(Side *s, int big) {
+    add(s, big ? "real\t8\tBE" : "real\t8\tLE");
+    s->size = 8;
+#ifdef WITH_HDF5
+    s->h5 = H5Tcopy(big ? H5T_IEEE_F64BE : H5T_NATIVE_DOUBLE);
 #endif
     return s->types++;
 }
@@ -127,6 +136,17 @@ static void add_ints(Side *s, int n, const Int *members, const int *names) {
     add_compound(s, n, types, sizes, h5, names);
 }
 
+static void add_reals(Side *s, int n, int big) {
+    int types[64], sizes[64];
+    hid_t h5[64];
+    for (int i = 0; i < n; i++) {
+        types[i] = add_real(s, big);
+        sizes[i] = s->size;
+        h5[i] = s->h5;
+    }
+    add_compound(s, n, types, sizes, h5, NULL);
+}
+
 // ---- workloads
 
 static void whole_bytes(Workload *w) {
@@ -163,6 +183,27 @@ static void twelve_bits(Workload *w) {
     }
     add_ints(&w->source, 8, from, NULL);
     add_ints(&w->destination, 8, to, NULL);
+}
+
+static void twelve_bits_to_reals(Workload *w) {
+    Int from[8];
+    for (int i = 0; i < 8; i++)
+        from[i] = (Int){2, 1, 4, 12, i % 2};
+    add_ints(&w->source, 8, from, NULL);
+    add_reals(&w->destination, 8, 0);
+}
+
+static void reals_to_ints(Workload *w) {
+    Int to[8];
+    for (int i = 0; i < 8; i++)
+        to[i] = (Int){2, 0, 0, 16, 1};
+    add_reals(&w->source, 8, 0);
+    add_ints(&w->destination, 8, to, NULL);
+}
+
+static void turned_reals(Workload *w) {
+    add_reals(&w->source, 8, 0);
+    add_reals(&w->destination, 8, 1);
 }
 
 static void array_of_512(Workload *w) {
@@ -233,12 +274,21 @@ static void fail(const Workload *w, const char *what) {
     exit(1);
 }
 
-static unsigned char random_byte(int largest) {
+static unsigned long long random_bits(void) {
     static unsigned long long state = 88172645463325252ull;
     state ^= state << 13;
     state ^= state >> 7;
     state ^= state << 17;
-    return (unsigned char)((state >> 24) % (unsigned)(largest + 1));
+    return state >> 24;
+}
+
+static unsigned char random_byte(int largest) { return (unsigned char)(random_bits() % (unsigned)(largest + 1)); }
+
+static void random_quarters(unsigned char *bytes, size_t len) {
+    for (size_t i = 0; i + 8 <= len; i += 8) {
+        double quarters = (double)(int)(random_bits() % (1 << 18)) / 4 - 32768;
+        memcpy(bytes + i, &quarters, 8);
+    }
 }
 
 // The report converts in h5, which HDF5 does not use then.
@@ -328,8 +378,11 @@ static void print_row(const Workload *w, double c, double p, double h) {
 static Buffers make_buffers(const Workload *w) {
     size_t s = w->records * (size_t)w->source.size, d = w->records * (size_t)w->destination.size, most = s > d ? s : d;
     Buffers b = {malloc(s), calloc(d, 1), calloc(d, 1), malloc(most), malloc(most), malloc(d)};
-    for (size_t i = 0; i < s; i++)
-        b.source[i] = random_byte(w->largest);
+    if (w->largest == QUARTERS)
+        random_quarters(b.source, s);
+    else
+        for (size_t i = 0; i < s; i++)
+            b.source[i] = random_byte(w->largest);
     return b;
 }
 
@@ -380,11 +433,14 @@ int main(int argc, char **argv) {
                            {"1 byte grown to 8", RECORDS, 1, 1, "", 255, {.sheet = ""}, {.sheet = ""}},
                            {"4 members out of 64", RECORDS, 1, 4, "1.2", 255, {.sheet = ""}, {.sheet = ""}},
                            {"the first 4 of 64", RECORDS, 1, 4, "", 255, {.sheet = ""}, {.sheet = ""}},
+                           {"8 members of 12 bits to doubles", RECORDS, 1, 8, "3", 255, {.sheet = ""}, {.sheet = ""}},
+                           {"8 doubles to 16-bit ints", RECORDS, 1, 8, "", QUARTERS, {.sheet = ""}, {.sheet = ""}},
+                           {"8 doubles of the other order", RECORDS, 1, 8, "", 255, {.sheet = ""}, {.sheet = ""}},
                            {"8 whole-byte members, one record a call", 1, CALLS, 8, "", 255, {.sheet = ""}, {.sheet = ""}}};
     static Workload reports[] = {{"report of 8 whole-byte members of at most 32 bits", RECORDS, 1, 8, "2.5", 255, {.sheet = ""}, {.sheet = ""}},
                                  {"report of 8 members that may clamp", RECORDS, 1, 8, "", 255, {.sheet = ""}, {.sheet = ""}}};
     static void (*const make_report[])(Workload *) = {whole_bytes_of_32, clamped};
-    static void (*const make[])(Workload *) = {whole_bytes, twelve_bits, array_of_512, enums, grown_byte, scattered, first_four, whole_bytes};
+    static void (*const make[])(Workload *) = {whole_bytes, twelve_bits, array_of_512, enums, grown_byte, scattered, first_four, twelve_bits_to_reals, reals_to_ints, turned_reals, whole_bytes};
     int rounds = argc > 1 ? atoi(argv[1]) : 15;
     if (rounds < 1 || rounds > ROUNDS_MOST)
         rounds = 15;

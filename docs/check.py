@@ -220,7 +220,7 @@ def check_teaching(page, text):
         expect(part.startswith(title + "\n"), page, f"does not explain {title}")
         for byte_string in itertools.chain(*re.findall(r"^(?:wrong|right): (.+) -> (.+)$", error, re.M)):
             expect(f"`{byte_string}`" in part, page, f"{title}: lacks {byte_string}")
-    for line in re.findall(r'"((?:int|enum|value|array|comp|member) [^"{]+)"', read("bindings/python/classroom.py")):
+    for line in re.findall(r'"((?:int|real|enum|value|array|comp|member) [^"{]+)"', read("bindings/python/classroom.py")):
         expect(line in said, page, f"lacks the line {line}")
 
 
@@ -238,7 +238,7 @@ def check_answers(page, text):
 
 def check_rules(page, text):
     found = tables(text, "| Rule | Right | Faulty |")
-    expect(len(found) == 6, page, "not six tables of rules")
+    expect(len(found) == 7, page, "not seven tables of rules")
     for before, part in found:
         for rule, right, faulty in part:
             expect(is_fine(before + sheet(right)), page, f"refused: {right}")

@@ -53,7 +53,8 @@ enum {
     YIRVAGUL_SOURCE = 3,
     /* The destination sheet, or the reader's, is faulty at `line`, likewise. */
     YIRVAGUL_DESTINATION = 4,
-    /* The source type has no path to the destination type. Give members of one name the same class, and arrays the same dimensions, as many and in the same order. */
+    /* The source type has no path to the destination type. Give members of one name the same class, or make one an int and the other a real; and arrays the
+     * same dimensions, as many and in the same order. */
     YIRVAGUL_PATH = 5,
     /* count is above 65,536. Convert in parts. */
     YIRVAGUL_COUNT = 6,
@@ -61,8 +62,8 @@ enum {
      * background for count * D, the in-place buffer or the log for count * max(S, D), the report's memory for its words, the list, or the report's output.
      * Lend a longer one. */
     YIRVAGUL_ROOM = 7,
-    /* Handling is stop, and a number does not fit: the first such leaf is `at` bytes into destination record `record`, and `kind` says why. Widen the
-     * destination layout there, or convert with YIRVAGUL_CLAMP. */
+    /* Handling is stop, and a number does not fit: the first such leaf is `at` bytes into destination record `record`, and `kind` says why. Give the
+     * destination a layout there that holds it, or convert with YIRVAGUL_CLAMP. */
     YIRVAGUL_STOP = 8,
     /* A setter's argument or result is outside its rule, or the layout already was. Pass a valid layout and an argument within the rule. */
     YIRVAGUL_RANGE = 9,
@@ -84,11 +85,14 @@ enum {
     YIRVAGUL_ANSWER_KIND = 5    /* STOP: the kind of exception; words 6 and 7 are for later, and 0 */
 };
 
-/* Kinds of exception, and what clamping writes. */
+/* Kinds of exception, and what clamping writes. A leaf raises at most one. */
 enum {
-    YIRVAGUL_ABOVE = 1,    /* the number is above the destination's range: the largest is written */
-    YIRVAGUL_BELOW = 2,    /* it is below it: the smallest is written */
-    YIRVAGUL_NO_SYMBOL = 3 /* an enum's number has no symbol, or its symbol is not in the destination: all significant bits are one */
+    YIRVAGUL_ABOVE = 1,        /* the number is above the destination's range, or is +infinity: the largest is written */
+    YIRVAGUL_BELOW = 2,        /* it is below it, or is -infinity: the smallest is written */
+    YIRVAGUL_NO_SYMBOL = 3,    /* an enum's number has no symbol, or its symbol is not in the destination: all significant bits are one */
+    YIRVAGUL_NOT_A_NUMBER = 4, /* a real for an int is a not-a-number (NaN), quiet or signalling: 0 is written */
+    YIRVAGUL_TRUNCATED = 5,    /* a real for an int has a fraction, or is a negative zero: the fraction is dropped toward zero, or the sign is */
+    YIRVAGUL_ROUNDED = 6       /* an int for a real is no double: the nearest double is written, of two as near the even one */
 };
 
 /* The name of a number that a call returns, as "DONE" or "SOURCE", for messages; "UNKNOWN" of a number that is none of them. C89 has no inline
@@ -117,7 +121,7 @@ static inline const char *yirvagul_name(uint32_t number) {
 
 /* What handling says of numbers that do not fit. */
 enum {
-    YIRVAGUL_CLAMP = 0,     /* write the nearest that fits, and count it */
+    YIRVAGUL_CLAMP = 0,     /* write what the kind of the exception says, and count it */
     YIRVAGUL_STOP_FIRST = 1 /* refuse with STOP before anything is written */
 };
 
@@ -163,7 +167,8 @@ enum {
  *
  * The count records of the log are converted to the reader's layout as yirvagul_convert_in_place_plain does it, and the buffer is left as that call leaves
  * it. The numbers that then stand in a matched int leaf are its samples: its lowest, highest, sum and number of samples follow them. A number that was
- * clamped is a sample too, and one exception more. A leaf that the log does not match gets none.
+ * clamped is a sample too, as is the 0 of a not-a-number, and one exception more. A leaf that the log does not match gets none. Reals of the reader's sheet
+ * have no line and no words, as bits and enums have none; their exceptions are counted.
  *
  * The output has a header, `at`, `lowest`, `highest`, `sum` and `samples` parted by tabs, and a line for each int leaf of the reader's sheet, in byte order,
  * in decimal; `-` stands for lowest and highest where there is no sample. Done gives the output's length; bytes past it stay. A count of 0 adds nothing and

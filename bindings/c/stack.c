@@ -52,6 +52,8 @@ static const char *const KEPT = "int\t2\tBE\t3\t7\tkeep\tkeep\tsigned";
 static const char *const BITS = "bits\t1\tLE\t0\t8\tzero\tzero";
 static const char *const FOUR = "int\t4\tLE\t0\t32\tzero\tzero\tunsigned";
 static const char *const WIDE = "int\t8\tBE\t0\t64\tzero\tzero\tunsigned";
+static const char *const REAL = "real\t8\tLE";
+static const char *const OTHER_REAL = "real\t8\tBE";
 
 static void array_of(Sheet *s, const char *base, int n) { numbered(s, "array\t%d\t%d", type(s, base), n); }
 
@@ -161,6 +163,8 @@ static void make_pairs(void) {
     p = pair("128 enums of 256 symbols", 1), enum_array(&p->from, BYTE, 0, 256, 1, 128), enum_array(&p->to, BYTE, 0, 255, 1, 128);
     p = pair("16 enums of 256 far symbols", 1), enum_array(&p->from, WIDE, 0, 256, 8000000, 16), enum_array(&p->to, WIDE, 0, 255, 7000000, 16);
     p = pair("62 enums that differ", 1), many_enums(&p->from, 254, 62), many_enums(&p->to, 253, 62);
+    p = pair("16 ints to doubles", 1), array_of(&p->from, WIDE, 16), array_of(&p->to, REAL, 16);
+    p = pair("128 doubles to bytes", 1), array_of(&p->from, REAL, 128), array_of(&p->to, BYTE, 128);
     p = pair("129 leaves", 1), array_of(&p->from, BYTE, 129), array_of(&p->to, SIGNED_BYTE, 129);
     p = pair("4,096 leaves", 1), array_of(&p->from, BYTE, 4096), array_of(&p->to, SIGNED_BYTE, 4096);
     p = pair("2,048 leaves, growing", 1), array_of(&p->from, SIGNED_BYTE, 2048), array_of(&p->to, PAIR, 2048);
@@ -172,6 +176,8 @@ static void make_pairs(void) {
     p = pair("compounds of 4,096 leaves", 1), wide_compounds(&p->from, BYTE, 0), wide_compounds(&p->to, SIGNED_BYTE, 1);
     p = pair("4,096 enums of 256 symbols", 1), enum_array(&p->from, BYTE, 0, 256, 1, 4096), enum_array(&p->to, BYTE, 0, 255, 1, 4096);
     p = pair("512 enums of 256 far symbols", 1), enum_array(&p->from, WIDE, 0, 256, 8000000, 512), enum_array(&p->to, WIDE, 0, 255, 7000000, 512);
+    p = pair("512 ints to doubles", 1), array_of(&p->from, WIDE, 512), array_of(&p->to, REAL, 512);
+    p = pair("512 doubles of the other order", 0), array_of(&p->from, REAL, 512), array_of(&p->to, OTHER_REAL, 512);
     p = pair("62 enums that differ in 4,096", 1), many_enums(&p->from, 254, 62), many_enums(&p->to, 253, 4096);
 }
 

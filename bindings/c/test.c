@@ -8,6 +8,8 @@
 #define SIGNED_BYTE "int\t1\tLE\t0\t8\tzero\tzero\tsigned\n"
 #define PAIR "int\t2\tBE\t0\t16\tzero\tzero\tunsigned\n"
 #define BITS "bits\t1\tLE\t0\t8\tzero\tzero\n"
+#define WIDEST "int\t8\tBE\t0\t64\tzero\tzero\tunsigned\n"
+#define REAL "real\t8\tBE\n"
 
 static uint32_t table[YIRVAGUL_TABLE_WORDS + 1];
 static uint64_t answer[8];
@@ -79,6 +81,39 @@ static void test_in_place(void) {
                   7, 0, 0, 0, 0, 0, "ROOM, in place");
 }
 
+/* One real, to a byte: what clamping writes, and the kind that stops it (0: none). */
+static void expect_byte(const char *real, uint8_t wanted, uint64_t kind, const char *what) {
+    uint8_t out[1] = {0x77};
+    expect_answer(copying(REAL, BYTE, 1, YIRVAGUL_STOP_FIRST, real, 8, out, 1), kind ? 8 : 0, 0, 0, 0, 0, kind, what);
+    expect(out[0] == (kind ? 0x77 : wanted), what);
+    expect_answer(copying(REAL, BYTE, 1, YIRVAGUL_CLAMP, real, 8, out, 1), 0, kind ? 1 : 0, 0, 0, 0, 0, what);
+    expect(out[0] == wanted, what);
+}
+
+static void test_reals(void) {
+    uint8_t out[8];
+    expect_byte("\x40\x6f\xe0\0\0\0\0\0", 255, 0, "255.0");
+    expect_byte("\x40\x6f\xf0\0\0\0\0\0", 255, YIRVAGUL_TRUNCATED, "255.5");
+    expect_byte("\x40\x70\x08\0\0\0\0\0", 255, YIRVAGUL_ABOVE, "256.5");
+    expect_byte("\xbf\xe0\0\0\0\0\0\0", 0, YIRVAGUL_TRUNCATED, "-0.5");
+    expect_byte("\xbf\xf0\0\0\0\0\0\0", 0, YIRVAGUL_BELOW, "-1.0");
+    expect_byte("\x80\0\0\0\0\0\0\0", 0, YIRVAGUL_TRUNCATED, "-0.0");
+    expect_byte("\x7f\xf0\0\0\0\0\0\0", 255, YIRVAGUL_ABOVE, "infinity");
+    expect_byte("\xff\xf0\0\0\0\0\0\0", 0, YIRVAGUL_BELOW, "-infinity");
+    expect_byte("\x7f\xf8\0\0\0\0\0\0", 0, YIRVAGUL_NOT_A_NUMBER, "a quiet not-a-number");
+    expect_byte("\xff\xf0\0\0\0\0\0\1", 0, YIRVAGUL_NOT_A_NUMBER, "a signalling not-a-number");
+    expect_answer(copying(BYTE, REAL, 1, YIRVAGUL_STOP_FIRST, "\xff", 1, out, 8), 0, 0, 0, 0, 0, 0, "an int to a real");
+    expect_bytes(out, "\x40\x6f\xe0\0\0\0\0\0", 8, "255 as a double");
+    expect_answer(copying(WIDEST, REAL, 1, YIRVAGUL_STOP_FIRST, "\0\x20\0\0\0\0\0\1", 8, out, 8), 8, 0, 0, 0, 0, YIRVAGUL_ROUNDED, "2^53 + 1");
+    expect_answer(copying(WIDEST, REAL, 1, YIRVAGUL_CLAMP, "\0\x20\0\0\0\0\0\3", 8, out, 8), 0, 1, 0, 0, 0, 0, "2^53 + 3, clamped");
+    expect_bytes(out, "\x43\x40\0\0\0\0\0\2", 8, "a tie goes to the even double");
+    expect_answer(copying(REAL, "real\t8\tLE\n", 1, YIRVAGUL_STOP_FIRST, "\xff\xf0\0\0\0\0\x12\x34", 8, out, 8), 0, 0, 0, 0, 0, 0,
+                  "a real to a real");
+    expect_bytes(out, "\x34\x12\0\0\0\0\xf0\xff", 8, "all 64 bits, of a signalling not-a-number too");
+    expect_answer(copying(REAL, BITS, 1, 0, "\0\0\0\0\0\0\0\0", 8, out, 8), 5, 0, 0, 0, 0, 0, "PATH, a real to bits");
+    expect_answer(copying("real\t4\tBE\n", BYTE, 1, 0, "\0\0\0\0", 4, out, 8), 3, 0, 1, 0, 0, 0, "SOURCE, a real of 4 bytes");
+}
+
 /* ---- the report */
 
 #define WIDE "int\t8\tLE\t0\t33\tzero\tzero\tsigned\n"
@@ -129,6 +164,7 @@ static void test_report(void) {
     expect(memory[YIRVAGUL_REPORT_RECORDS] == 3 && memory[YIRVAGUL_REPORT_EXCEPTIONS] == 2, "records and exceptions");
     expect(memory[2] == -128 && memory[3] == 127 && memory[4] == 126 && memory[5] == 3 && memory[6] == -7, "the leaf's words, and the one behind them");
     expect_report(report(BITS, BITS, 0, NULL, 0, memory, 2, 31), HEAD, "a report without ints");
+    expect_report(report(BYTE, REAL, 0, NULL, 0, memory, 2, 31), HEAD, "a report of a real, which has no line");
 
     expect_refused("int\t9\n", BYTE, 1, 1, held, WORDS, 100, YIRVAGUL_SOURCE, 1, "SOURCE, report");
     expect_refused(BYTE, BYTE "x\n", 1, 1, held, WORDS, 100, YIRVAGUL_DESTINATION, 2, "DESTINATION, report");
@@ -319,6 +355,7 @@ static void test_names(void) {
 int main(void) {
     test_copying();
     test_in_place();
+    test_reals();
     test_report();
     test_largest_report();
     test_list();

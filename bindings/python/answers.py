@@ -1,7 +1,10 @@
 """The answers to the questions for the class (docs/QUESTIONS.md), run through the library and through wrong converters. docs/ANSWERS.md explains them."""
 
+import struct
+
 import classroom
 from classroom import BYTE, converter, copied, expect, flips_that_show, leaves, marks, number, print_picture, replaced, sheet, significant_bits
+from classroom import stopped
 from yirvagul import Handling, Refusal, convert_copying
 
 
@@ -112,8 +115,24 @@ def three_bytes():
     print(", ".join(numbers))
 
 
+def halves():
+    """The fraction is dropped first, and then the range is looked at."""
+    signed = sheet(classroom.VALVE)
+    for real in (-0.5, 127.5, 128.5, -128.5, -129.0):
+        leaf = struct.pack(">d", real)
+        _, out = converter(classroom.REAL, signed, 1)(leaf)
+        print(f"{real:6}  {leaf.hex(' ')} -> {out.hex()}, {stopped(classroom.REAL, signed, 1, leaf)}")
+
+
+def two_ints_of_one_double():
+    wide = sheet("int 8 BE 0 64 zero zero unsigned")
+    for number in (2**60, 2**60 + 1, 2**60 + 256):
+        count, out = converter(wide, classroom.REAL, 8)(number.to_bytes(8, "big"))
+        print(f"{number} -> {out.hex(' ')}, count {count}")
+
+
 if __name__ == "__main__":
     bit_0()
-    for part in (another_record, minus_200, shrinking, kept_pads, all_ones, there_and_back, behind_the_stop, three_bytes):
+    for part in (another_record, minus_200, shrinking, kept_pads, all_ones, there_and_back, behind_the_stop, three_bytes, halves, two_ints_of_one_double):
         print()
         part()

@@ -1,9 +1,11 @@
-"""One record of a rig's log, read leaf by leaf; the seven classroom errors, each beside the library's result on the same bytes; and which bits of a
-source record the result turns on.
+"""One record of a rig's log, read leaf by leaf; the seven classroom errors, each beside the library's result on the same bytes; which bits of a
+source record the result turns on; and pressures that are doubles.
 
 docs/TEACHING.md explains every line that this prints. The converters marked WRONG are wrong on purpose, and only as long as their example needs.
 """
 
+import math
+import struct
 import sys
 
 from yirvagul import Handling, Refusal, convert_copying, convert_in_place
@@ -288,6 +290,50 @@ def orders():
     print(", ".join(f"{order}: {number(layout, OIL)}" for order, layout in ORDERS.items()))
 
 
+# ---- pressures that are doubles
+
+REAL = sheet("real 8 BE")
+REALS = [100.0, 100.5, 255.5, 256.5, -0.5, -1.0, 0.0, -0.0, math.inf, math.nan]
+
+
+def stopped(source, destination, size, leaf):
+    """The kind that stops one leaf's conversion, by number and name."""
+    try:
+        convert_copying(source, destination, 1, Handling.STOP, leaf, bytearray(size))
+    except Refusal as refused:
+        return f"kind {int(refused.kind)}, {refused.kind.name}"
+    return "no exception"
+
+
+def doubles():
+    print("Doubles into a byte, clamped")
+    for real in REALS:
+        leaf = struct.pack(">d", real)
+        _, out = converter(REAL, sheet(BYTE), 1)(leaf)
+        print(f"{real:5}  {leaf.hex(' ')} -> {out.hex()}, {stopped(REAL, sheet(BYTE), 1, leaf)}")
+    try:
+        copied(REAL, sheet(BYTE), 1, struct.pack(">d", math.nan), bytes(1))
+    except Refusal as refused:
+        print(refused)
+
+
+def doubles_flips():
+    turned, byte = converter(REAL, sheet("real 8 LE"), 8), converter(REAL, sheet(BYTE), 1)
+    print("Flips of one of the 64 bits that show: into a double of the other order; into a byte, clamped")
+    for real in (100.0, -0.0, math.nan):
+        leaf = struct.pack(">d", real)
+        print(f"{real:5}  {leaf.hex(' ')}  {len(flips_that_show(turned, leaf))}, {len(flips_that_show(byte, leaf))}")
+
+
+def ints_as_doubles():
+    print("Ints of 64 bits into a double, clamped")
+    wide = sheet("int 8 BE 0 64 zero zero unsigned")
+    for name, number in (("2^53 - 1", 2**53 - 1), ("2^53", 2**53), ("2^53 + 1", 2**53 + 1), ("2^53 + 2", 2**53 + 2), ("2^53 + 3", 2**53 + 3)):
+        leaf = number.to_bytes(8, "big")
+        _, out = converter(wide, REAL, 8)(leaf)
+        print(f"{name:8}  {leaf.hex(' ')} -> {out.hex(' ')}, {stopped(wide, REAL, 8, leaf)}")
+
+
 ERRORS = {
     "Sign taken from the container's top bit": sign,
     "Growing in place from the first record": growing,
@@ -307,6 +353,6 @@ def errors():
 
 if __name__ == "__main__":
     reading()
-    for part in (orders, errors, flips):
+    for part in (orders, errors, flips, doubles, doubles_flips, ints_as_doubles):
         print()
         part()

@@ -89,6 +89,36 @@ fn a_stop_names_the_first_and_leaves_the_output() {
 }
 
 #[test]
+fn pressures_as_doubles_and_back() {
+    let folder = Folder::new("doubles");
+    folder.write(
+        "doubles.sheet",
+        b"real\t8\tLE\narray\t0\t3\ncomp\t24\nmember\tboost\t0\t1\n",
+    );
+    folder
+        .run("convert rig.sheet doubles.sheet rig.log doubles.log")
+        .said(0, "48 records, 0 exceptions\n");
+    let mut doubles = folder.read("doubles.log");
+    let first: Vec<u8> = [100.0, 98.0, 110.0]
+        .into_iter()
+        .flat_map(f64::to_le_bytes)
+        .collect();
+    assert_eq!(doubles[..24], first);
+    // Record 7 has a sensor whose plug is loose.
+    doubles[24 * 7 + 8..24 * 7 + 16].copy_from_slice(&f64::NAN.to_le_bytes());
+    folder.write("loose.log", &doubles);
+    let back = "convert doubles.sheet customer.sheet loose.log back.log";
+    folder.run(back).said(
+        3,
+        "yirvagul: loose.log: STOP (8): record 7, `boost[1]` at byte 3: the real is not-a-number (NaN), which no int holds: make the destination a real, or clamp\n",
+    );
+    folder
+        .run(&format!("{back} --clamp"))
+        .said(0, "48 records, 1 exception\n");
+    assert_eq!(folder.read("back.log")[7 * 7 + 3..7 * 7 + 5], [0, 0]);
+}
+
+#[test]
 fn one_exception_is_said_in_the_singular() {
     let folder = Folder::new("singular");
     folder.write("odd.log", ODD);

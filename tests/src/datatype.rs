@@ -56,6 +56,8 @@ pub struct Member {
 pub enum Datatype {
     Int(Atomic),
     Bits(Atomic),
+    /// An IEEE 754 binary64, by the layout in which its 64 bits are a number.
+    Real(Atomic),
     Enum {
         base: Atomic,
         values: Vec<Value>,
@@ -71,10 +73,23 @@ pub enum Datatype {
 }
 
 impl Datatype {
+    /// "A leaf `real⇥8⇥LE` or `BE`."
+    pub fn real(order: Order) -> Datatype {
+        Datatype::Real(Atomic {
+            size: 8,
+            order,
+            offset: 0,
+            precision: 64,
+            lsb: Pad::Zero,
+            msb: Pad::Zero,
+            signed: false,
+        })
+    }
+
     /// In bytes.
     pub fn size(&self) -> u64 {
         match self {
-            Datatype::Int(layout) | Datatype::Bits(layout) => layout.size,
+            Datatype::Int(layout) | Datatype::Bits(layout) | Datatype::Real(layout) => layout.size,
             Datatype::Enum { base, .. } => base.size,
             Datatype::Comp { size, .. } => *size,
             Datatype::Array { base, dimensions } => {

@@ -10,7 +10,7 @@ use crate::size;
 
 const TABLE: [u32; 8192] = [7; 8192];
 
-fn hex(text: &str) -> Vec<u8> {
+pub fn hex(text: &str) -> Vec<u8> {
     let byte = |word| u8::from_str_radix(word, 16).expect("a byte in hex");
     text.split_whitespace().map(byte).collect()
 }
@@ -27,7 +27,14 @@ fn given<'a>(from: &'a str, to: &'a str, count: u64, handling: Option<u32>) -> C
 
 /// Converts one record by copying and in place, clamping and stopping.
 #[track_caller]
-fn expect(from: &str, to: &str, source: &str, background: &str, result: &str, kind: Option<u64>) {
+pub fn expect(
+    from: &str,
+    to: &str,
+    source: &str,
+    background: &str,
+    result: &str,
+    kind: Option<u64>,
+) {
     let (source, background, result) = (hex(source), hex(background), hex(result));
     let count = kind.is_some() as u64;
     let clamped = copying(given(from, to, 1, Some(0)), &source, &background);

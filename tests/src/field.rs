@@ -1,6 +1,14 @@
 //! The fields of a sheet's line: words, names and numbers.
 
-use crate::datatype::Pad;
+use crate::datatype::{Order, Pad};
+
+pub fn order(field: &[u8]) -> Option<Order> {
+    match field {
+        b"LE" => Some(Order::LittleEndian),
+        b"BE" => Some(Order::BigEndian),
+        _ => None,
+    }
+}
 
 pub fn pad(field: &[u8]) -> Option<Pad> {
     match field {

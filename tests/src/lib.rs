@@ -7,6 +7,7 @@ pub mod field;
 pub mod list;
 pub mod number;
 pub mod paths;
+pub mod real;
 pub mod report;
 pub mod setters;
 pub mod sheet;
@@ -16,5 +17,7 @@ pub mod size;
 mod exercises;
 #[cfg(test)]
 mod faults;
+#[cfg(test)]
+mod reals;
 #[cfg(test)]
 mod seasons;

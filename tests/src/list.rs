@@ -15,6 +15,7 @@ pub fn text(datatype: &Datatype) -> Vec<u8> {
         let class = match leaf.datatype {
             Datatype::Int(_) => "int",
             Datatype::Bits(_) => "bits",
+            Datatype::Real(_) => "real",
             _ => "enum",
         };
         let size = number::layout(leaf.datatype).size;

@@ -1,6 +1,7 @@
 //! Where the bits lie: numbers read, written and clamped bit by bit.
 
 use crate::datatype::{Atomic, Datatype, Order, Pad, Value};
+use crate::real;
 
 /// The byte that holds a bit of the container, and the bit's place in it.
 fn place(layout: &Atomic, bit: u64) -> (usize, u64) {
@@ -82,22 +83,30 @@ pub fn range(layout: &Atomic) -> (i128, i128) {
 /// "All significant bits one", as the number to write.
 const ALL_ONES: i128 = -1;
 
-/// The number to write into the destination leaf, and the exception kind.
+/// The number to write into the destination leaf, and the exception kind. A
+/// real's number is its 64 bits.
 pub fn convert(source: &Datatype, destination: &Datatype, number: i128) -> (i128, Option<u64>) {
     match (source, destination) {
         (Datatype::Int(_), Datatype::Int(layout)) => clamp(layout, number),
         (Datatype::Bits(_), Datatype::Bits(layout)) => clamp(layout, number),
+        (Datatype::Int(_), Datatype::Real(_)) => {
+            let (pattern, kind) = real::from_int(number);
+            (i128::from(pattern), kind)
+        }
+        (Datatype::Real(_), Datatype::Int(layout)) => real::to_int(layout, number as u64),
+        // "Real to real copies all 64 bits."
+        (Datatype::Real(_), Datatype::Real(_)) => (number, None),
         (Datatype::Enum { values, .. }, Datatype::Enum { values: others, .. }) => {
             match symbol(values, others, number) {
                 Some(number) => (number, None),
                 None => (ALL_ONES, Some(3)),
             }
         }
-        _ => unreachable!("leaves of two classes have no path"),
+        _ => unreachable!("these leaves have no path"),
     }
 }
 
-fn clamp(layout: &Atomic, number: i128) -> (i128, Option<u64>) {
+pub fn clamp(layout: &Atomic, number: i128) -> (i128, Option<u64>) {
     let (smallest, largest) = range(layout);
     if number > largest {
         (largest, Some(1))
@@ -118,8 +127,8 @@ fn symbol(source: &[Value], destination: &[Value], number: i128) -> Option<i128>
 /// The atomic layout in which a leaf's number lies.
 pub fn layout(leaf: &Datatype) -> &Atomic {
     match leaf {
-        Datatype::Int(layout) | Datatype::Bits(layout) => layout,
+        Datatype::Int(layout) | Datatype::Bits(layout) | Datatype::Real(layout) => layout,
         Datatype::Enum { base, .. } => base,
-        _ => unreachable!("a leaf is an int, bits or enum place"),
+        _ => unreachable!("a leaf is an int, bits, real or enum place"),
     }
 }

@@ -10,7 +10,7 @@ pub enum Step {
     Element(u64),
 }
 
-/// "A leaf is an int, bits or enum place."
+/// "A leaf is an int, bits or enum place", or a real one.
 #[derive(Clone, Debug)]
 pub struct Leaf<'a> {
     pub way: Vec<Step>,
@@ -31,6 +31,9 @@ pub fn has_path(source: &Datatype, destination: &Datatype) -> bool {
     match (source, destination) {
         (Datatype::Int(_), Datatype::Int(_)) => true,
         (Datatype::Bits(_), Datatype::Bits(_)) => true,
+        // Document 02, 2026-03: "with paths to and from int and to another real"
+        (Datatype::Int(_), Datatype::Real(_)) => true,
+        (Datatype::Real(_), Datatype::Int(_) | Datatype::Real(_)) => true,
         (Datatype::Enum { .. }, Datatype::Enum { .. }) => true,
         (
             Datatype::Array {

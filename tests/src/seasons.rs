@@ -2,6 +2,7 @@
 
 use crate::call::{Answer, Call};
 use crate::exercises::{BYTE, LISTED, SIGNED_BYTE, TWO_BE};
+use crate::reals::REAL_BE;
 use crate::report::{After, MOST_HELD, report};
 
 const TABLE: [u32; 8192] = [7; 8192];
@@ -112,6 +113,28 @@ fn a_wide_int_is_no_channel() {
     let fine = format!("{wide}enum\t0\n{wide}{BYTE}comp\t9\nmember\ta\t0\t3\nmember\tv\t1\t1\n");
     let text = Season::new(&fine, 1).add(&fine, 0, &[]);
     assert_eq!(text, format!("{HEAD}0\t-\t-\t0\t0\n"));
+}
+
+#[test]
+fn reals_are_no_lines_and_give_samples() {
+    // A reader's real has no line; its exceptions are counted.
+    let reader = format!("{REAL_BE}{BYTE}comp\t9\nmember\tb\t0\t0\nmember\ta\t8\t1\n");
+    let wide = "int\t8\tBE\t0\t64\tzero\tzero\tunsigned\n";
+    let log = format!("{wide}{REAL_BE}comp\t16\nmember\ta\t0\t1\nmember\tb\t8\t0\n");
+    let mut season = Season::new(&reader, 1);
+    let two_and_a_half = 0x4004_0000_0000_0000_u64;
+    let not_a_number = 0x7FF8_0000_0000_0000_u64;
+    let records: Vec<u8> = [two_and_a_half, u64::MAX, not_a_number, 5]
+        .iter()
+        .flat_map(|word| word.to_be_bytes())
+        .collect();
+    // The fraction, 2^64 - 1 as a double, and the 0 of the not-a-number.
+    let text = season.add(&log, 2, &records);
+    assert_eq!(text, format!("{HEAD}8\t0\t2\t2\t2\n"));
+    assert_eq!(season.memory, [2, 3, 0, 2, 2, 2]);
+    // CHANNEL looks at ints alone.
+    let text = Season::new(REAL_BE, 0).add(wide, 1, &[0xFF; 8]);
+    assert_eq!(text, HEAD);
 }
 
 #[test]

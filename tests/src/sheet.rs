@@ -1,7 +1,7 @@
 //! Layout sheets: from text to datatypes, or to the first faulty line.
 
-use crate::datatype::{Atomic, Datatype, Member, Order, Value};
-use crate::field::{name, natural, pad, whole};
+use crate::datatype::{Atomic, Datatype, Member, Value};
+use crate::field::{name, natural, order, pad, whole};
 use crate::number;
 use std::rc::Rc;
 
@@ -37,6 +37,7 @@ fn judge(read: &mut Read, line: &[u8]) -> Option<()> {
     match fields[0] {
         b"int" => add_type(read, Datatype::Int(atomic(&fields, true)?)),
         b"bits" => add_type(read, Datatype::Bits(atomic(&fields, false)?)),
+        b"real" => add_type(read, real(&fields)?),
         b"enum" => {
             let datatype = enumeration(read, &fields)?;
             add_type(read, datatype)
@@ -67,11 +68,7 @@ fn atomic(fields: &[&[u8]], has_sign: bool) -> Option<Atomic> {
     }
     let layout = Atomic {
         size: natural(fields[1])?,
-        order: match fields[2] {
-            b"LE" => Order::LittleEndian,
-            b"BE" => Order::BigEndian,
-            _ => return None,
-        },
+        order: order(fields[2])?,
         offset: natural(fields[3])?,
         precision: natural(fields[4])?,
         lsb: pad(fields[5])?,
@@ -83,6 +80,14 @@ fn atomic(fields: &[&[u8]], has_sign: bool) -> Option<Atomic> {
         },
     };
     layout.is_valid().then_some(layout)
+}
+
+/// "`real⇥8⇥LE` or `BE`."
+fn real(fields: &[&[u8]]) -> Option<Datatype> {
+    if fields.len() != 3 || fields[1] != b"8" {
+        return None;
+    }
+    Some(Datatype::real(order(fields[2])?))
 }
 
 fn enumeration(read: &Read, fields: &[&[u8]]) -> Option<Datatype> {

@@ -6,6 +6,7 @@ BYTE = "int\t1\tLE\t0\t8\tzero\tzero\tunsigned\n"
 SIGNED = "int\t1\tLE\t0\t8\tzero\tzero\tsigned\n"
 PAIR = "int\t2\tBE\t0\t16\tzero\tzero\tunsigned\n"
 BITS = "bits\t1\tLE\t0\t8\tzero\tzero\n"
+REAL = "real\t8\tBE\n"
 
 RIG = """\
 int\t2\tBE\t4\t12\tzero\tzero\tunsigned
@@ -53,6 +54,9 @@ def random_sheet(rng: random.Random) -> str:
             ints.append((len(sizes), least, least + (1 << precision) - 1))
             add("\t".join(map(str, ("int", *fields, sign))), size)
 
+    def real():
+        add(f"real\t8\t{rng.choice(('LE', 'BE'))}", 8)
+
     def enum():
         base, least, most = rng.choice(ints)
         add(f"enum\t{base}", sizes[base])
@@ -84,7 +88,7 @@ def random_sheet(rng: random.Random) -> str:
 
     atomic()
     for _ in range(rng.randint(0, 6)):
-        kind = rng.choice((atomic, enum, array, comp))
+        kind = rng.choice((atomic, atomic, real, enum, enum, array, array, comp, comp))
         if kind is not enum or ints:
             kind()
     if rng.random() < 0.8:

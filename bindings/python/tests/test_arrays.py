@@ -46,6 +46,25 @@ class Dtypes(unittest.TestCase):
         self.assertEqual(sheet_of(np.uint16), f"int\t2\t{native}\t0\t16\tzero\tzero\tunsigned\n")
         self.assertEqual(dtype_of(BITS), np.dtype("u1"))
 
+    def test_reals(self):
+        for code, order in (("<f8", "LE"), (">f8", "BE")):
+            sheet = f"real\t8\t{order}\n"
+            self.assertEqual(sheet_of(code), sheet)
+            self.assertEqual(dtype_of(sheet), np.dtype(code))
+        native = "LE" if sys.byteorder == "little" else "BE"
+        self.assertEqual(sheet_of(np.float64), f"real\t8\t{native}\n")
+        self.assertEqual(sheet_of(float), f"real\t8\t{native}\n")
+        dtype = np.dtype([("valve", "u1"), ("boost", ">f8", (3,)), ("oil", "<f8")])
+        sheet = sheet_of(dtype)
+        self.assertEqual(dtype_of(sheet), dtype)
+        self.assertEqual(
+            sheet,
+            "int\t1\tLE\t0\t8\tzero\tzero\tunsigned\nreal\t8\tBE\narray\t1\t3\nreal\t8\tLE\n"
+            "comp\t33\nmember\tvalve\t0\t0\nmember\tboost\t1\t2\nmember\toil\t25\t3\n",
+        )
+        with self.assertRaisesRegex(ValueError, "its base, type 0, is a real: an enum's base is an int$"):
+            sheet_of(np.dtype("<f8", metadata={"enum": {"a": 1}}))
+
     def test_records(self):
         dtype = np.dtype([("boost", "<u2", (3,)), ("map", ">i4", (2, 5)), ("at", [("x", "u1"), ("y", "u1")])], align=True)
         sheet = sheet_of(dtype)
@@ -91,6 +110,8 @@ class Dtypes(unittest.TestCase):
             return type_._replace(base=self.plain(type_.base))
         if isinstance(type_, sheets.Enum):
             return type_._replace(base=self.plain(type_.base))
+        if isinstance(type_, sheets.Real):
+            return type_
         order = type_.order if type_.size > 1 else yirvagul.Order.LE
         return type_._replace(class_=yirvagul.Class.INT, order=order, lsb=yirvagul.Pad.ZERO, msb=yirvagul.Pad.ZERO)
 
@@ -114,12 +135,12 @@ class Dtypes(unittest.TestCase):
     def test_dtypes_without_a_sheet(self):
         overlapping = np.dtype({"names": ["a", "b"], "formats": ["<u2", "<u2"], "offsets": [0, 1], "itemsize": 3})
         for dtype, words in (
-            ("f8", "the record is float64, and sheets have whole numbers alone"),
-            ([("a", [("b", "?")])], "`a.b` is bool, and sheets have whole numbers alone"),
-            ([("a", "S3", (2,))], r"`a\[\]` is \|S3, and sheets have whole numbers alone"),
-            ("V4", r"the record is \|V4, and sheets have whole numbers alone"),
-            ("M8[s]", r"the record is datetime64\[s\], and sheets have whole numbers alone"),
-            ("O", "the record is object, and sheets have whole numbers alone"),
+            ("f4", "the record is float32, and sheets have whole numbers and float64 alone"),
+            ([("a", [("b", "?")])], "`a.b` is bool, and sheets have whole numbers and float64 alone"),
+            ([("a", "S3", (2,))], r"`a\[\]` is \|S3, and sheets have whole numbers and float64 alone"),
+            ("V4", r"the record is \|V4, and sheets have whole numbers and float64 alone"),
+            ("M8[s]", r"the record is datetime64\[s\], and sheets have whole numbers and float64 alone"),
+            ("O", "the record is object, and sheets have whole numbers and float64 alone"),
             ([("oil temp", "u1")], "`oil temp`: its name, `oil temp`, has byte 32: a name's bytes are 33 to 126, with no blank"),
             ([("a\t0\t0\nmember\tb", "u1")], "has byte 9: a name's bytes are 33 to 126, with no blank"),
             ([("n" * 32, "u1")], "has 32 bytes: a name has 1 to 31"),
@@ -175,6 +196,20 @@ class Arrays(unittest.TestCase):
         pressures = np.array([1, 2, 300], "<u2")
         convert_in_place(sheet_of("<u2"), BYTE, 3, Handling.CLAMP, pressures, bytes(3))
         self.assertEqual(pressures.tobytes(), b"\x01\x02\xff\x00\x00\x00")
+
+    def test_pressures_as_doubles(self):
+        dtype = np.dtype([("boost", "<f8", (3,))])
+        array, exceptions = convert_to_array(RIG, dtype, Handling.STOP, LOG)
+        self.assertEqual(exceptions, 0)
+        self.assertEqual(array["boost"].tolist(), [[100.0, 2000.0, 4095.0], [0.0, 1.0, 2.0]])
+        back = bytearray(16)
+        self.assertEqual(convert_copying(sheet_of(dtype), RIG, 2, Handling.STOP, array, back), 0)
+        self.assertEqual(bytes(back), bytes.fromhex("06 40 7d 00 ff f0 00 00  00 00 00 10 00 20 00 00"))
+        doubles = np.array([-0.5, 255.5, 256.5, np.nan, -np.inf, -0.0, 7.0])
+        numbers, exceptions = convert_to_array(sheet_of(doubles.dtype), BYTE, Handling.CLAMP, doubles)
+        self.assertEqual((numbers.tolist(), exceptions), ([0, 255, 255, 0, 0, 0, 7], 6))
+        turned, exceptions = convert_to_array(sheet_of(doubles.dtype), np.dtype(">f8"), Handling.STOP, doubles)
+        self.assertEqual((turned.tobytes(), exceptions), (doubles.byteswap().tobytes(), 0))
 
     def test_arrays_that_are_no_buffers(self):
         column = np.zeros((4, 4), "u1")[:, 1]

@@ -1,12 +1,14 @@
 """Refusals: their fields, their words, and their way through pickles, copies and pools."""
 
 import copy
+import math
 import multiprocessing
 import pickle
+import struct
 import unittest
 
 import yirvagul
-from common import BITS, BYTE, CUSTOMER, PAIR, RIG, SIGNED
+from common import BITS, BYTE, CUSTOMER, PAIR, REAL, RIG, SIGNED
 from yirvagul import Class, Handling, Kind, Layout, Number, Order, Pad, Refusal, Report, Short, Sign, _explain, _library
 
 WIDE = "int\t8\tLE\t0\t33\tzero\tzero\tsigned\narray\t0\t2\ncomp\t16\nmember\toil\t0\t1\n"
@@ -147,6 +149,28 @@ class Messages(unittest.TestCase):
                 f"STOP (8): record 1, byte 0: the number is {words} the destination's range: widen the destination, or clamp",
             )
 
+    def test_kinds_of_reals(self):
+        wide = "int\t8\tBE\t0\t64\tzero\tzero\tunsigned\n"
+        none = "the real is not-a-number (NaN), which no int holds: make the destination a real, or clamp"
+        lost = "the real has a fraction, or is a negative zero, which no int holds: make the destination a real, or clamp"
+        above = "the number is above the destination's range: widen the destination, or clamp"
+        below = "the number is below the destination's range: widen the destination, or clamp"
+        near = "the int is no double, only near one: make the destination an int, or clamp"
+        for source, destination, data, kind, words in (
+            (REAL, BYTE, struct.pack(">d", math.nan), Kind.NOT_A_NUMBER, none),
+            (REAL, BYTE, bytes.fromhex("fff0000000000001"), Kind.NOT_A_NUMBER, none),
+            (REAL, BYTE, struct.pack(">d", 255.5), Kind.TRUNCATED, lost),
+            (REAL, BYTE, struct.pack(">d", -0.5), Kind.TRUNCATED, lost),
+            (REAL, BYTE, struct.pack(">d", -0.0), Kind.TRUNCATED, lost),
+            (REAL, BYTE, struct.pack(">d", 256.5), Kind.ABOVE, above),
+            (REAL, BYTE, struct.pack(">d", -math.inf), Kind.BELOW, below),
+            (wide, REAL, ((1 << 53) + 1).to_bytes(8, "big"), Kind.ROUNDED, near),
+        ):
+            with self.assertRaises(Refusal) as caught:
+                yirvagul.convert_copying(source, destination, 1, Handling.STOP, data, bytearray(8))
+            self.assertEqual(caught.exception.kind, kind)
+            self.assertEqual(str(caught.exception), f"STOP (8): record 0, byte 0: {words}")
+
     def test_what_nobody_could_tell(self):
         """With nothing but the library's words."""
         for refused, words in (
@@ -155,7 +179,7 @@ class Messages(unittest.TestCase):
             (
                 Refusal(5),
                 "PATH (5): no path from the source type to the destination type: "
-                "give members of one name the same class, and arrays the same dimensions",
+                "give members of one name the same class, or an int and a real, and arrays the same dimensions",
             ),
             (Refusal(6), "COUNT (6): more than 65,536 records in one call: convert them with convert_log, or in parts"),
             (Refusal(7), "ROOM (7): a buffer is too short for that many records, or for the list: lend a longer one"),
@@ -171,7 +195,7 @@ class Messages(unittest.TestCase):
 
     def test_a_place_that_only_the_library_knows(self):
         """Sheets that this version cannot read explain nothing, and hide nothing."""
-        new = b"real\t8\tLE\n"
+        new = b"time\t8\tLE\n"
         refused = _explain.refusal((8, 0, 0, 3, 8, 1, 0, 0), new, new)
         self.assertEqual((refused.record, refused.at, refused.kind, refused.member), (3, 8, Kind.ABOVE, None))
         self.assertEqual(_explain.refusal((5, 0, 0, 0, 0, 0, 0, 0), new, new).rule, None)
@@ -194,7 +218,7 @@ class FromANewerLibrary(unittest.TestCase):
             self.assertEqual(fields(pickle.loads(pickle.dumps(refused))), fields(refused))
 
     def test_kinds(self):
-        for kind in (0, 4, 5, 6, 99):
+        for kind in (0, 7, 99):
             refused = _explain.refusal((8, 0, 0, 1, 2, kind, 0, 0), RIG.encode(), RIG.encode())
             self.assertEqual((refused.name, refused.kind, refused.member), ("STOP", kind, "boost[1]"))
             self.assertEqual(

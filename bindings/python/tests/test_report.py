@@ -4,17 +4,19 @@ import array
 import concurrent.futures
 import copy
 import io
+import math
 import multiprocessing
 import pathlib
 import pickle
 import random
+import struct
 import tempfile
 import threading
 import unittest
 import zlib
 
 import yirvagul
-from common import BITS, BYTE, CUSTOMER, PAIR, RIG, SIGNED, random_sheet
+from common import BITS, BYTE, CUSTOMER, PAIR, REAL, RIG, SIGNED, random_sheet
 from yirvagul import Number, Refusal, Report, Row, Summary, sheets
 
 REPOSITORY = pathlib.Path(__file__).resolve().parents[3]
@@ -58,6 +60,17 @@ class Results(unittest.TestCase):
         self.assertEqual(report.summary, summary)
         self.assertEqual(report.add(BOTH, b""), summary)
         self.assertEqual(repr(report), "<Report: records 3, exceptions 1>")
+
+    def test_reals(self):
+        """A real of the reader's sheet has no row, and its exceptions count; a real of the log gives an int samples."""
+        report = Report(BYTE + REAL + "comp\t9\nmember\ta\t0\t0\nmember\tb\t1\t1\n")
+        self.assertEqual(report.rows, (Row(0, "a", None, None, 0, 0),))
+        wide = "int\t8\tBE\t0\t64\tzero\tzero\tunsigned\n"
+        log = struct.pack(">dQdQ", 2.5, 5, math.nan, (1 << 64) - 1)
+        summary = report.add(REAL + wide + "comp\t16\nmember\ta\t0\t0\nmember\tb\t8\t1\n", log)
+        # the fraction, the not-a-number, whose 0 is a sample, and 2^64 - 1, which is no double
+        self.assertEqual((summary.records, summary.exceptions), (2, 3))
+        self.assertEqual(summary.rows, (Row(0, "a", 0, 2, 2, 2),))
 
     def test_a_leaf_without_a_name(self):
         report = Report(PAIR)

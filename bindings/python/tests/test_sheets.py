@@ -5,7 +5,7 @@ import unittest
 from unittest import mock
 
 import yirvagul
-from common import BITS, BYTE, CUSTOMER, PAIR, RIG, SIGNED, random_sheet, spoiled
+from common import BITS, BYTE, CUSTOMER, PAIR, REAL, RIG, SIGNED, random_sheet, spoiled
 from yirvagul import Handling, Number, Refusal, record_size, sheets
 
 ENUM = BYTE + "enum\t0\n"
@@ -28,9 +28,9 @@ RULES = {
     "no line end, later": (BYTE + "comp\t1", 2, "it is the last line and has no line end: end it with byte 10"),
     "empty line": (BYTE + "\n", 2, "it is empty: leave it out"),
     "carriage return": ("comp\t4\r\n", 1, "it ends in a carriage return, byte 13: end lines with byte 10 alone"),
-    "another word": ("real\t8\tLE\n", 1, "it starts with `real`: a line starts with one of int, bits, enum, value, comp, member, array"),
+    "another word": ("time\t8\tLE\n", 1, "it starts with `time`: a line starts with one of int, bits, real, enum, value, comp, member, array"),
     "another case": ("Comp\t4\n", 1, "it starts with `Comp`: write comp"),
-    "a tab first": ("\tcomp\t4\n", 1, "it starts with a tab: a line starts with one of int, bits, enum, value, comp, member, array"),
+    "a tab first": ("\tcomp\t4\n", 1, "it starts with a tab: a line starts with one of int, bits, real, enum, value, comp, member, array"),
     "blanks for tabs": ("comp 4\n", 1, "its fields are parted by blanks: part them by one tab"),
     "a tab last": ("comp\t4\t\n", 1, "it ends in a tab: write the field that is missing, or leave the tab out"),
     "an empty field last": (ENUM + "value\ta\t\n", 3, "it ends in a tab: write the field that is missing, or leave the tab out"),
@@ -105,6 +105,21 @@ RULES = {
     "lsb": ("bits\t1\tLE\t0\t8\tnone\tzero\n", 1, "its lsb pad is `none`: write zero or one or keep"),
     "msb": ("bits\t1\tLE\t0\t8\tzero\tOne\n", 1, "its msb pad is `One`: write zero or one or keep"),
     "sign": ("int\t1\tLE\t0\t8\tzero\tzero\tplain\n", 1, "its sign is `plain`: write signed or unsigned"),
+    # reals
+    "fields of real": ("real\t8\n", 1, "it has 2 fields, and real has 3, parted by one tab: real, size, order"),
+    "a layout's fields of real": (
+        "real\t8\tLE\t0\t64\tzero\tzero\n",
+        1,
+        "it has 7 fields, and real has 3, parted by one tab: real, size, order",
+    ),
+    "size of real": ("real\t4\tLE\n", 1, "its size is 4 bytes: a real has 8"),
+    "size 1 of real": ("real\t1\tLE\n", 1, "its size is 1 byte: a real has 8"),
+    "leading zero of real": ("real\t08\tLE\n", 1, "its size is `08`: leave leading zeros out"),
+    "order of real": ("real\t8\tle\n", 1, "its order is `le`: write LE or BE"),
+    "real in another case": ("Real\t8\tLE\n", 1, "it starts with `Real`: write real"),
+    "base is a real": (REAL + "enum\t0\n", 2, "its base, type 0, is a real: an enum's base is an int"),
+    "value after a real": (REAL + "value\ta\t0\n", 2, "value follows an enum or another value of it, and the type before it is a real"),
+    "array of reals": (REAL + "array\t0\t513\n", 2, "it has 4,104 bytes: an array has at most 4,096"),
     # enums
     "no base before": ("enum\t0\n", 1, "its base is type 0, and before the type that uses it there is none"),
     "base too late": (BYTE + "enum\t1\n", 2, "its base is type 1, and before the type that uses it there is only type 0"),
@@ -189,7 +204,7 @@ class Rules(unittest.TestCase):
     def test_sheets_at_the_limits(self):
         self.assertEqual(record_size(BYTE * 64), 1)
         self.assertEqual(record_size(PAIR + "enum\t0\n" + "".join(f"value\ta{i}\t{i}\n" for i in range(256))), 2)
-        for sheet in ("comp\t4096\n", BYTE + "array\t0\t4096\n", BYTE + "array\t0\t1\t2\t3\t4\n", ENUM, "comp\t1\n"):
+        for sheet in ("comp\t4096\n", BYTE + "array\t0\t4096\n", BYTE + "array\t0\t1\t2\t3\t4\n", ENUM, "comp\t1\n", REAL + "array\t0\t512\n"):
             self.assertEqual(sheets.read(sheet).size, record_size(sheet))
 
     def test_source_and_destination_are_told_apart(self):

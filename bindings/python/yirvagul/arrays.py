@@ -28,8 +28,8 @@ def _numpy() -> Any:
 def dtype_of(sheet: Sheet) -> numpy.dtype[Any]:
     """The numpy dtype that has the same bytes as the sheet's type.
 
-    Ints and bits must fill 1, 2, 4 or 8 bytes; a sheet with another layout has no dtype and raises ValueError. Bits become unsigned numbers. An enum
-    becomes its base with the symbols beside it, in `dtype.metadata["enum"]`, where h5py has them too.
+    Ints and bits must fill 1, 2, 4 or 8 bytes; a sheet with another layout has no dtype and raises ValueError. Bits become unsigned numbers, reals
+    float64. An enum becomes its base with the symbols beside it, in `dtype.metadata["enum"]`, where h5py has them too.
     """
     np = _numpy()
     record_size(sheet)  # the library judges the sheet
@@ -55,17 +55,19 @@ def _dtype(np: Any, type_: sheets.Type, way: str) -> Any:
     if isinstance(type_, sheets.Enum):
         symbols = {value.name: value.number for value in type_.values}
         return np.dtype(_dtype(np, type_.base, way), metadata={"enum": symbols})
+    order = "<" if type_.order == Order.LE else ">"
+    if isinstance(type_, sheets.Real):
+        return np.dtype(f"{order}f8")
     if type_.offset != 0 or type_.precision != 8 * type_.size or type_.size not in (1, 2, 4, 8):
         raise ValueError(
             f"no dtype for this sheet: {_named(way)} has {type_.precision} bits at offset {type_.offset} of {type_.size} bytes, "
             "and numpy's whole numbers fill 1, 2, 4 or 8 bytes: convert to a sheet with such numbers"
         )
-    order = "<" if type_.order == Order.LE else ">"
     return np.dtype(f"{order}{'i' if type_.sign == Sign.SIGNED else 'u'}{type_.size}")
 
 
 def sheet_of(dtype: numpy.typing.DTypeLike) -> str:
-    """The sheet of a numpy dtype of whole numbers, and of records and arrays of them.
+    """The sheet of a numpy dtype of whole numbers and float64, and of records and arrays of them.
 
     A number with `metadata["enum"]`, as `dtype_of` and h5py write it, is an enum. A dtype that no sheet can say raises ValueError.
     """
@@ -100,11 +102,13 @@ class _Lines:
                 member, at = dtype.fields[name][:2]
                 rows.append(f"member\t{_checked(name, way)}\t{at}\t{self.type_of(member, _inside(way, name))}")
             return self.add(f"comp\t{dtype.itemsize}", *rows)
-        if dtype.kind not in "iu":
-            raise ValueError(f"no sheet for this dtype: {_named(way)} is {dtype}, and sheets have whole numbers alone")
+        is_real = dtype.kind == "f" and dtype.itemsize == 8
+        if dtype.kind not in "iu" and not is_real:
+            raise ValueError(f"no sheet for this dtype: {_named(way)} is {dtype}, and sheets have whole numbers and float64 alone")
         little = dtype.itemsize == 1 or dtype.byteorder == "<" or (dtype.byteorder == "=" and sys.byteorder == "little")
         order, sign = "LE" if little else "BE", "signed" if dtype.kind == "i" else "unsigned"
-        number = self.add(f"int\t{dtype.itemsize}\t{order}\t0\t{8 * dtype.itemsize}\tzero\tzero\t{sign}")
+        place = "" if is_real else f"\t0\t{8 * dtype.itemsize}\tzero\tzero\t{sign}"
+        number = self.add(f"{'real' if is_real else 'int'}\t{dtype.itemsize}\t{order}{place}")
         symbols = (dtype.metadata or {}).get("enum")
         if symbols is None:
             return number

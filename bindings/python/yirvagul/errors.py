@@ -30,6 +30,9 @@ class Kind(enum.IntEnum):
     ABOVE = 1
     BELOW = 2
     NO_SYMBOL = 3
+    NOT_A_NUMBER = 4
+    TRUNCATED = 5
+    ROUNDED = 6
 
 
 class Short(NamedTuple):
@@ -120,7 +123,7 @@ def _faulty(refused: Refusal) -> str:
 
 
 def _path(refused: Refusal) -> str:
-    rule = refused.rule or "give members of one name the same class, and arrays the same dimensions"
+    rule = refused.rule or "give members of one name the same class, or an int and a real, and arrays the same dimensions"
     if refused.member is None:
         return f"no path from the source type to the destination type: {rule}"
     return f"no path from the source type to the destination type at {quoted(refused.member)}: {rule}"
@@ -142,6 +145,9 @@ _WHY = {
     Kind.ABOVE: "the number is above the destination's range: widen the destination, or clamp",
     Kind.BELOW: "the number is below the destination's range: widen the destination, or clamp",
     Kind.NO_SYMBOL: "the number has no symbol, or its symbol is not in the destination: complete the enums, or clamp",
+    Kind.NOT_A_NUMBER: "the real is not-a-number (NaN), which no int holds: make the destination a real, or clamp",
+    Kind.TRUNCATED: "the real has a fraction, or is a negative zero, which no int holds: make the destination a real, or clamp",
+    Kind.ROUNDED: "the int is no double, only near one: make the destination an int, or clamp",
 }
 
 

@@ -37,6 +37,16 @@ class Atomic(NamedTuple):
         return 0, (1 << self.precision) - 1
 
 
+class Real(NamedTuple):
+    """A real type: an IEEE 754 binary64, all of whose bits are the number's."""
+
+    order: Order
+
+    @property
+    def size(self) -> int:
+        return 8
+
+
 class Value(NamedTuple):
     """A symbol of an enum and its number."""
 
@@ -81,14 +91,14 @@ class Array(NamedTuple):
         return math.prod(self.dimensions) * self.base.size
 
 
-Type = Union[Atomic, Enum, Compound, Array]
+Type = Union[Atomic, Real, Enum, Compound, Array]
 
 
 def class_name(type_: Type) -> str:
     """The class of a type in words, with its article."""
     if isinstance(type_, Atomic):
         return "an int" if type_.class_ == Class.INT else "a bits"
-    return {Enum: "an enum", Compound: "a compound", Array: "an array"}[type(type_)]
+    return {Real: "a real", Enum: "an enum", Compound: "a compound", Array: "an array"}[type(type_)]
 
 
 # ---- reading
@@ -135,6 +145,7 @@ class _Broken(Exception):
 _FIELDS = {
     "int": ("size", "order", "offset", "precision", "lsb", "msb", "sign"),
     "bits": ("size", "order", "offset", "precision", "lsb", "msb"),
+    "real": ("size", "order"),
     "enum": ("base",),
     "value": ("name", "number"),
     "comp": ("size",),
@@ -173,6 +184,8 @@ class _Reading:
         made: Type
         if word in ("int", "bits"):
             made = _atomic(*fields)
+        elif word == "real":
+            made = _real(*fields)
         elif word == "enum":
             made = self.enum_of(fields[0])
         elif word == "comp":
@@ -245,7 +258,7 @@ def _atomic(size: str, order: str, offset: str, precision: str, lsb: str, msb: s
     made = Atomic(
         Class.BITS if sign is None else Class.INT,
         _natural("size", size),
-        _code("order", order, {"LE": Order.LE, "BE": Order.BE}),
+        _code("order", order, _ORDERS),
         _natural("offset", offset),
         _natural("precision", precision),
         _code("lsb pad", lsb, _PADS),
@@ -262,6 +275,13 @@ def _atomic(size: str, order: str, offset: str, precision: str, lsb: str, msb: s
             f"its offset {made.offset:,} and precision {made.precision} need {bits:,} bits, "
             f"and its size has {8 * made.size}: enlarge the size, or move or narrow the number"
         )
+    return made
+
+
+def _real(size: str, order: str) -> Real:
+    bytes_, made = _natural("size", size), Real(_code("order", order, _ORDERS))
+    if bytes_ != made.size:
+        raise _Broken(f"its size is {_many(bytes_, 'byte')}: a real has 8")
     return made
 
 
@@ -286,6 +306,7 @@ def _with_value(last: Enum, name: str, field: str) -> Enum:
 
 # ---- fields
 
+_ORDERS = {"LE": Order.LE, "BE": Order.BE}
 _PADS = {"zero": Pad.ZERO, "one": Pad.ONE, "keep": Pad.KEEP}
 _T = TypeVar("_T")
 
@@ -380,7 +401,7 @@ def _span(at: int, type_: Type) -> str:
 def leaf_name(type_: Type, at: int) -> Optional[str]:
     """The way to the leaf whose first byte is `at` bytes into a record: names and places in arrays, such as boost[1]. None if it has no names."""
     way = ""
-    while not isinstance(type_, (Atomic, Enum)):
+    while not isinstance(type_, (Atomic, Real, Enum)):
         if isinstance(type_, Compound):
             inside = [member for member in type_.members if member.at <= at < member.at + member.type.size]
             if not inside:
@@ -453,6 +474,6 @@ def no_path(source: Type, destination: Type, way: str = "") -> Optional[NoPath]:
         ours, theirs = (" by ".join(map(str, array.dimensions)) for array in (source, destination))
         return NoPath(way or None, f"the source has an array of {ours}, the destination one of {theirs}: give both the same dimensions")
     ours, theirs = class_name(source), class_name(destination)
-    if ours == theirs:
+    if ours == theirs or {ours, theirs} == {"an int", "a real"}:
         return None
     return NoPath(way or None, f"the source has {ours}, the destination {theirs}: give both the same class")

@@ -6,12 +6,18 @@ use std::fmt;
 #[derive(Clone, Copy, Debug, PartialEq, Eq, Hash)]
 #[non_exhaustive]
 pub enum Kind {
-    /// It is above the destination's range; [`Handling::Clamp`](crate::Handling::Clamp) writes the largest.
+    /// It is above the destination's range, or is +infinity; [`Handling::Clamp`](crate::Handling::Clamp) writes the largest.
     Above,
-    /// It is below it; clamping writes the smallest.
+    /// It is below it, or is -infinity; clamping writes the smallest.
     Below,
     /// An enum's number has no symbol, or its symbol is not in the destination; clamping sets all significant bits.
     NoSymbol,
+    /// A real for an int is a not-a-number (NaN), quiet or signalling; clamping writes 0.
+    NotANumber,
+    /// A real for an int has a fraction, or is a negative zero; clamping drops the fraction toward zero, or the sign.
+    Truncated,
+    /// An int for a real is no double; clamping writes the nearest one, of two as near the even one.
+    Rounded,
     /// A kind that this version of the crate does not know, by its number.
     Unknown(u32),
 }
@@ -23,6 +29,9 @@ impl Kind {
             Kind::Above => 1,
             Kind::Below => 2,
             Kind::NoSymbol => 3,
+            Kind::NotANumber => 4,
+            Kind::Truncated => 5,
+            Kind::Rounded => 6,
             Kind::Unknown(number) => number,
         }
     }
@@ -32,6 +41,9 @@ impl Kind {
             1 => Kind::Above,
             2 => Kind::Below,
             3 => Kind::NoSymbol,
+            4 => Kind::NotANumber,
+            5 => Kind::Truncated,
+            6 => Kind::Rounded,
             _ => Kind::Unknown(number as u32),
         }
     }
@@ -44,6 +56,9 @@ impl fmt::Display for Kind {
             Kind::Above => f.write_str("the number is above the destination's range: widen the destination, or clamp"),
             Kind::Below => f.write_str("the number is below the destination's range: widen the destination, or clamp"),
             Kind::NoSymbol => f.write_str("the number has no symbol, or its symbol is not in the destination: complete the enums, or clamp"),
+            Kind::NotANumber => f.write_str("the real is not-a-number (NaN), which no int holds: make the destination a real, or clamp"),
+            Kind::Truncated => f.write_str("the real has a fraction, or is a negative zero, which no int holds: make the destination a real, or clamp"),
+            Kind::Rounded => f.write_str("the int is no double, only near one: make the destination an int, or clamp"),
             Kind::Unknown(number) => write!(f, "the number does not fit, for a reason that this version does not know (kind {number}): clamp, or use a newer wrapper"),
         }
     }
@@ -301,7 +316,7 @@ impl fmt::Display for Error {
             Error::Source { line, text, rule, .. } => faulty(f, "source sheet", *line, text, rule),
             Error::Destination { line, text, rule } => faulty(f, "destination sheet", *line, text, rule),
             Error::Path { member: Some(member), why: Some(why) } => write!(f, "no path from the source type to the destination type: {} {why}", named(member)),
-            Error::Path { .. } => f.write_str("no path from the source type to the destination type: give members of one name the same class, and arrays the same dimensions"),
+            Error::Path { .. } => f.write_str("no path from the source type to the destination type: give members of one name the same class, or an int and a real, and arrays the same dimensions"),
             Error::Count => f.write_str("more than 65,536 records in one call: convert them in parts, as convert_log does"),
             Error::Room { short: Some(Short { buffer, holds, needs }) } => write!(f, "the {buffer} is too short: it holds {holds} bytes and needs {needs}: lend a longer one"),
             Error::Room { .. } => f.write_str("a buffer is too short for that many records, or for the list: lend a longer one"),

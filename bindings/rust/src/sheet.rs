@@ -7,6 +7,7 @@ const MOST_TYPES: usize = 64;
 const MOST_ROWS: usize = 256;
 const MOST_RECORD_BYTES: u32 = 4096;
 const MOST_CHANNEL_BITS: u32 = 32;
+const REAL_BYTES: u32 = 8;
 
 /// A datatype as a tree.
 #[derive(Debug)]
@@ -24,6 +25,7 @@ pub(crate) enum Class {
         highest: i128,
     },
     Bits,
+    Real,
     Enum {
         lowest: i128,
         highest: i128,
@@ -135,6 +137,7 @@ fn columns(word: &[u8]) -> Option<&'static [&'static str]> {
             "sign",
         ],
         b"bits" => &["bits", "size", "order", "offset", "precision", "lsb", "msb"],
+        b"real" => &["real", "size", "order"],
         b"enum" => &["enum", "base"],
         b"value" => &["value", "name", "number"],
         b"comp" => &["comp", "size"],
@@ -162,6 +165,7 @@ impl SoFar {
             return Err("it is the 65th type: a sheet has at most 64".into());
         }
         let new = match fields[0] {
+            b"real" => real(&fields)?,
             b"enum" => self.enumeration(&fields)?,
             b"comp" => compound(&fields)?,
             b"array" => self.array(&fields)?,
@@ -358,7 +362,9 @@ fn no_such_line(word: &[u8]) -> String {
     } else if word.contains(&b' ') {
         "its fields are parted by blanks: part them by one tab each".into()
     } else {
-        format!("its first word is `{said}`: write int, bits, enum, value, comp, member or array")
+        format!(
+            "its first word is `{said}`: write int, bits, real, enum, value, comp, member or array"
+        )
     }
 }
 
@@ -386,6 +392,7 @@ fn has_its_fields(fields: &[&[u8]], columns: &[&str]) -> Result<(), String> {
     }
     let hint = match word {
         "bits" if has == 8 => " (bits have no sign)",
+        "real" if has > 3 => " (a real has no offset, precision, pads or sign)",
         _ => "",
     };
     Err(format!(
@@ -434,6 +441,18 @@ fn atomic(fields: &[&[u8]]) -> Result<Type, String> {
         },
     };
     Ok(Type { size, class })
+}
+
+fn real(fields: &[&[u8]]) -> Result<Type, String> {
+    let size = number("size", fields[1])?;
+    word("order", fields[2], &["LE", "BE"])?;
+    if size != REAL_BYTES {
+        return Err(format!("the size is {size}: a real has 8 bytes"));
+    }
+    Ok(Type {
+        size,
+        class: Class::Real,
+    })
 }
 
 fn compound(fields: &[&[u8]]) -> Result<Type, String> {
@@ -554,6 +573,7 @@ impl Class {
         match self {
             Class::Int { .. } => "an int",
             Class::Bits => "bits",
+            Class::Real => "a real",
             Class::Enum { .. } => "an enum",
             Class::Comp { .. } => "a compound",
             Class::Array { .. } => "an array",
@@ -579,7 +599,7 @@ pub(crate) fn no_path(source: &Type, destination: &Type) -> Option<NoPath> {
 fn descend(source: &Type, destination: &Type, way: &mut String) -> Option<String> {
     let len = way.len();
     match (&source.class, &destination.class) {
-        (Class::Int { .. }, Class::Int { .. })
+        (Class::Int { .. } | Class::Real, Class::Int { .. } | Class::Real)
         | (Class::Bits, Class::Bits)
         | (Class::Enum { .. }, Class::Enum { .. }) => None,
         (Class::Comp { members: from }, Class::Comp { members }) => {
@@ -662,7 +682,7 @@ pub(crate) fn wide_int(record: &Type) -> Option<(String, u32)> {
 fn find_wide(of: &Type, at: &mut u32) -> Option<u32> {
     match &of.class {
         Class::Int { precision, .. } => (*precision > MOST_CHANNEL_BITS).then_some(*precision),
-        Class::Bits | Class::Enum { .. } => None,
+        Class::Bits | Class::Real | Class::Enum { .. } => None,
         Class::Array { base, .. } => find_wide(base, at),
         Class::Comp { members } => {
             let mut members: Vec<&Member> = members.iter().collect();

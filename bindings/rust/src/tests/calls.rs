@@ -1,5 +1,5 @@
 //! Every call, and every number that it answers.
-use super::{BITS, BYTE, PAIR, SIGNED};
+use super::{BITS, BYTE, PAIR, REAL, SIGNED, WIDE as WIDE_LINE};
 use crate::*;
 
 const WIDE: Layout = Layout {
@@ -137,6 +137,66 @@ fn kinds_of_stop() {
     assert_eq!((above, above.number()), (Kind::Above, 1));
     let none = kind(&symbols, &symbols, 7);
     assert_eq!((none, none.number()), (Kind::NoSymbol, 3));
+}
+
+#[test]
+fn kinds_of_reals() {
+    let kind = |from: &[u8], to: &[u8], bits: u64| {
+        let source = bits.to_be_bytes();
+        match convert_copying(from, to, 1, Handling::Stop, &source, &mut [0; 8]) {
+            Err(Error::Stop { kind, .. }) => kind,
+            other => panic!("{other:?}"),
+        }
+    };
+    let to_byte = |real: f64| kind(REAL, BYTE, real.to_bits());
+    let none = to_byte(f64::NAN);
+    assert_eq!((none, none.number()), (Kind::NotANumber, 4));
+    for real in [0.5, -0.5, 255.5, -0.0, f64::MIN_POSITIVE] {
+        let lost = to_byte(real);
+        assert_eq!((lost, lost.number()), (Kind::Truncated, 5));
+    }
+    for real in [256.0, 256.5, f64::INFINITY] {
+        assert_eq!(to_byte(real), Kind::Above);
+    }
+    for real in [-1.0, f64::NEG_INFINITY] {
+        assert_eq!(to_byte(real), Kind::Below);
+    }
+    let near = kind(WIDE_LINE, REAL, u64::MAX);
+    assert_eq!((near, near.number()), (Kind::Rounded, 6));
+}
+
+#[test]
+fn reals_are_doubles() {
+    let reals = |from: &[u8], source: &[u8], count: usize| {
+        let mut out = vec![0; 8 * count];
+        let exceptions = convert_copying_plain(from, REAL, count as u64, source, &mut out).unwrap();
+        let real = |bytes: &[u8]| f64::from_be_bytes(bytes.try_into().unwrap());
+        let reals: Vec<f64> = out.chunks(8).map(real).collect();
+        (reals, exceptions)
+    };
+    assert_eq!(reals(SIGNED, &[0, 5, 0x80], 3), (vec![0.0, 5.0, -128.0], 0));
+    assert_eq!(reals(WIDE_LINE, &[0xff; 8], 1), (vec![u64::MAX as f64], 1));
+    let mut out = [7; 4];
+    let source: Vec<u8> = [255.5, -0.5, f64::NAN, -3e9]
+        .into_iter()
+        .flat_map(f64::to_be_bytes)
+        .collect();
+    assert_eq!(
+        convert_copying_plain(REAL, BYTE, 4, &source, &mut out),
+        Ok(4)
+    );
+    assert_eq!(out, [255, 0, 0, 0]);
+    // All 64 bits, those of a signalling not-a-number too.
+    let (mut bits, turned) = ([0x7f, 0xf0, 0, 0, 0, 0, 0x12, 0x34], b"real\t8\tLE\n");
+    assert_eq!(
+        convert_in_place(REAL, turned, 1, Handling::Stop, &mut bits, &[0; 8]),
+        Ok(0)
+    );
+    assert_eq!(bits, [0x34, 0x12, 0, 0, 0, 0, 0xf0, 0x7f]);
+    assert_eq!(
+        leaf_list(REAL).as_deref(),
+        Ok("at\tsize\tclass\n0\t8\treal\n")
+    );
 }
 
 #[test]

@@ -1,5 +1,5 @@
 //! What is said of refusals by their buffers, paths and leaves, and that nothing is said which the library did not.
-use super::{BITS, BYTE, PAIR, SIGNED};
+use super::{BITS, BYTE, PAIR, REAL, SIGNED, WIDE};
 use crate::*;
 
 fn copying(from: &[u8], to: &[u8], count: u64, source: &[u8], room: usize) -> Error {
@@ -42,10 +42,28 @@ fn path_names_the_member() {
         ),
         "`boost` is an array of 3 in the source and of 2 by 2 in the destination: give both the same dimensions"
     );
-    let map = |dimensions: &[u8]| record(&[BYTE, b"array\t0\t", dimensions, b"\n"].concat(), 12, 1, "map");
+    let map = |dimensions: &[u8]| {
+        record(
+            &[BYTE, b"array\t0\t", dimensions, b"\n"].concat(),
+            12,
+            1,
+            "map",
+        )
+    };
     assert_eq!(
         path(&map(b"2\t6"), &map(b"3\t4")),
         "`map` is an array of 2 by 6 in the source and of 3 by 4 in the destination: give both the same dimensions"
+    );
+    assert_eq!(
+        path(&record(REAL, 8, 0, "boost"), &record(BITS, 1, 0, "boost")),
+        "`boost` is a real in the source and bits in the destination: give both the same class"
+    );
+    assert_eq!(
+        path(
+            &record(&states, 1, 1, "valve"),
+            &record(REAL, 8, 0, "valve")
+        ),
+        "`valve` is an enum in the source and a real in the destination: give both the same class"
     );
     let inner = [BITS, b"array\t0\t3\ncomp\t3\nmember\tboost\t0\t1\n"].concat();
     let other = [BYTE, b"array\t0\t3\ncomp\t3\nmember\tboost\t0\t1\n"].concat();
@@ -56,6 +74,24 @@ fn path_names_the_member() {
         ),
         "`engine.boost[0]` is bits in the source and an int in the destination: give both the same class"
     );
+}
+
+#[test]
+fn path_passes_ints_and_reals() {
+    let from = [
+        BYTE,
+        REAL,
+        BITS,
+        b"comp\t10\nmember\ta\t0\t0\nmember\tb\t1\t1\nmember\tc\t9\t2\n",
+    ]
+    .concat();
+    let to = [
+        BYTE,
+        REAL,
+        b"comp\t10\nmember\ta\t0\t1\nmember\tb\t8\t0\nmember\tc\t9\t0\n",
+    ]
+    .concat();
+    assert!(path(&from, &to).starts_with("`c` is bits in the source and an int in"));
 }
 
 #[test]
@@ -127,6 +163,31 @@ fn stop_names_the_leaf() {
 }
 
 #[test]
+fn stop_says_what_is_wrong_with_a_real() {
+    let boost = record(REAL, 8, 0, "boost");
+    let (byte, wide) = (record(BYTE, 1, 0, "boost"), record(WIDE, 8, 0, "boost"));
+    let said = |from: &[u8], to: &[u8], bits: u64| {
+        let e = copying(from, to, 1, &bits.to_be_bytes(), 8).to_string();
+        let start = "STOP (8): record 0, `boost` at byte 0: ";
+        e.strip_prefix(start).expect(&e).to_string()
+    };
+    let not_a_number =
+        "the real is not-a-number (NaN), which no int holds: make the destination a real, or clamp";
+    assert_eq!(said(&boost, &byte, f64::NAN.to_bits()), not_a_number);
+    assert_eq!(said(&boost, &byte, 0xfff0_0000_0000_0001), not_a_number);
+    let fraction = "the real has a fraction, or is a negative zero, which no int holds: make the destination a real, or clamp";
+    assert_eq!(said(&boost, &byte, 255.5_f64.to_bits()), fraction);
+    assert_eq!(said(&boost, &byte, (-0.0_f64).to_bits()), fraction);
+    let above = "the number is above the destination's range: widen the destination, or clamp";
+    assert_eq!(said(&boost, &byte, 256.5_f64.to_bits()), above);
+    assert_eq!(said(&boost, &byte, f64::INFINITY.to_bits()), above);
+    assert_eq!(
+        said(&wide, &boost, (1 << 53) + 1),
+        "the int is no double, only near one: make the destination an int, or clamp"
+    );
+}
+
+#[test]
 fn a_leaf_is_named_by_its_whole_way() {
     let lines = |base: &[u8]| {
         let rest = b"array\t0\t2\t3\ncomp\t7\nmember\tcells\t1\t1\narray\t2\t2\ncomp\t16\nmember\tmap\t2\t3\n";
@@ -169,7 +230,7 @@ fn what_is_not_found_is_not_said() {
     );
     assert_eq!(
         explained([5, 0, 0, 0, 0, 0, 0, 0], &call),
-        "PATH (5): no path from the source type to the destination type: give members of one name the same class, and arrays the same dimensions"
+        "PATH (5): no path from the source type to the destination type: give members of one name the same class, or an int and a real, and arrays the same dimensions"
     );
     assert_eq!(
         explained([7, 0, 0, 0, 0, 0, 0, 0], &call),
@@ -207,13 +268,13 @@ fn unknown_numbers_and_kinds_are_said() {
         e.to_string(),
         "UNKNOWN (12): a refusal that this version does not know, with the words [12, 0, 0, 0, 0, 0, 0, 0]: use a newer wrapper"
     );
-    let Error::Stop { kind, .. } = Error::from_answer([8, 0, 0, 0, 0, 5, 0, 0]) else {
+    let Error::Stop { kind, .. } = Error::from_answer([8, 0, 0, 0, 0, 7, 0, 0]) else {
         panic!("no STOP")
     };
-    assert_eq!((kind, kind.number()), (Kind::Unknown(5), 5));
+    assert_eq!((kind, kind.number()), (Kind::Unknown(7), 7));
     assert_eq!(
         kind.to_string(),
-        "the number does not fit, for a reason that this version does not know (kind 5): clamp, or use a newer wrapper"
+        "the number does not fit, for a reason that this version does not know (kind 7): clamp, or use a newer wrapper"
     );
 }
 

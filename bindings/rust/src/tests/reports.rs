@@ -1,5 +1,5 @@
 //! Reports: what they say, what they refuse, and how they are kept.
-use super::{BITS, BYTE, PAIR, SIGNED};
+use super::{BITS, BYTE, PAIR, REAL, SIGNED, WIDE};
 use crate::*;
 
 const HEAD: &str = "at\tlowest\thighest\tsum\tsamples\n";
@@ -39,6 +39,22 @@ fn a_new_one_says_that_there_is_nothing() {
     assert_eq!(Report::new(BITS).unwrap().text(), HEAD);
     let most = [BYTE, b"array\t0\t4096\n"].concat();
     assert_eq!(Report::new(&most).unwrap().summary().rows.len(), 4096);
+}
+
+#[test]
+fn reals_have_no_row_and_give_samples() {
+    // b is a real of the reader, a an int that the log has as a real
+    let mut report = Report::new(&pair(BYTE, REAL, (1, 8))).unwrap();
+    assert_eq!(report.text(), format!("{HEAD}0\t-\t-\t0\t0\n"));
+    let mut log = Vec::new();
+    for (a, b) in [(2.5, 5), (f64::NAN, u64::MAX)] {
+        log.extend(f64::to_be_bytes(a));
+        log.extend(u64::to_be_bytes(b));
+    }
+    let summary = report.add(&pair(REAL, WIDE, (8, 8)), &log).unwrap();
+    // the fraction, the not-a-number, whose 0 is a sample, and 2^64 - 1, which is no double
+    assert_eq!((summary.records, summary.exceptions), (2, 3));
+    assert_eq!(summary.text, format!("{HEAD}0\t0\t2\t2\t2\n"));
 }
 
 #[test]

@@ -1,5 +1,5 @@
 //! Each rule of a sheet's lines: where the library finds the sheet faulty, and what is said of it.
-use super::{BITS, BYTE, SIGNED};
+use super::{BITS, BYTE, REAL, SIGNED};
 use crate::sheet::{self, Fault};
 use crate::*;
 
@@ -108,7 +108,7 @@ fn a_lines_end_and_fields() {
     );
     second(
         "compound\t4",
-        "its first word is `compound`: write int, bits, enum, value, comp, member or array",
+        "its first word is `compound`: write int, bits, real, enum, value, comp, member or array",
     );
 }
 
@@ -242,6 +242,39 @@ fn atomic_types() {
     first(
         "int\t1\tLE\t0\t8\tzero\tzero\tSigned",
         "the sign is `Signed`: write signed or unsigned",
+    );
+}
+
+#[test]
+fn reals() {
+    for (line, rule) in [
+        ("real", "it has 1 field, and a line of this sort 3: real, size, order"),
+        ("real\t8", "it has 2 fields, and a line of this sort 3: real, size, order"),
+        (
+            "real\t8\tLE\t0\t64\tzero\tzero",
+            "it has 7 fields, and a line of this sort 3: real, size, order (a real has no offset, precision, pads or sign)",
+        ),
+        ("real\t4\tLE", "the size is 4: a real has 8 bytes"),
+        ("real\t9\tBE", "the size is 9: a real has 8 bytes"),
+        ("real\t08\tBE", "the size `08` has a leading zero: write it without"),
+        (
+            "real\t4294967304\tBE",
+            "the size 4294967304 is above 4,294,967,295, the largest number of a sheet",
+        ),
+        ("real\t8\tbe", "the order is `be`: write LE or BE"),
+        ("Real\t8\tLE", "its first word is `Real`: write it in small letters"),
+    ] {
+        first(line, rule);
+    }
+    let real = |line: &[u8], rule: &str| breaks(&[REAL, line].concat(), 2, rule);
+    real(b"enum\t0\n", "type 0 is a real: an enum's base is an int");
+    real(
+        b"value\ta\t0\n",
+        "a value line follows an enum or its values, and the type before it is a real",
+    );
+    real(
+        b"array\t0\t513\n",
+        "513 elements of 8 bytes pass 4,096 bytes: make a dimension smaller",
     );
 }
 
@@ -441,6 +474,7 @@ fn valid_sheets_have_no_fault() {
         format!("{wide}enum\t0\n{values}"),
         format!("{wide}array\t0\t1\t2\t4\t256\narray\t1\t1\ncomp\t1\n"),
         wide.repeat(64),
+        "real\t8\tLE\narray\t0\t512\nreal\t8\tBE\n".to_string(),
         "int\t8\tBE\t0\t64\tone\tone\tunsigned\nenum\t0\nvalue\tall\t18446744073709551615\n"
             .to_string(),
         format!("{wide}enum\t0\narray\t1\t3\ncomp\t2\narray\t3\t3\n"),
@@ -468,14 +502,15 @@ fn a_line_that_is_shown() {
 /// What is read here agrees with the library on sheets that are changed at random: in the faulty line, the size and the leaves.
 #[test]
 fn damaged_sheets() {
-    let sheets: [&[u8]; 3] = [
+    let sheets: [&[u8]; 4] = [
         b"int\t2\tBE\t4\t12\tzero\tzero\tunsigned\nint\t1\tLE\t0\t8\tzero\tzero\tsigned\nenum\t1\nvalue\topen\t0\nvalue\tshut\t1\narray\t0\t3\ncomp\t8\nmember\tboost\t0\t3\nmember\tvalve\t7\t2\n",
         b"bits\t8\tLE\t0\t64\tone\tkeep\nint\t3\tBE\t23\t1\tkeep\tone\tsigned\nenum\t1\nvalue\ta\t-1\nvalue\tb\t0\n",
         b"int\t1\tLE\t0\t8\tzero\tzero\tunsigned\ncomp\t4\nmember\ta\t0\t0\nmember\tb\t3\t0\narray\t1\t2\t3\t4\t5\ncomp\t4096\nmember\tx\t1\t2\nmember\ty\t0\t0\n",
+        b"real\t8\tLE\nint\t1\tLE\t0\t8\tzero\tzero\tunsigned\nreal\t8\tBE\nenum\t1\nvalue\ta\t8\ncomp\t20\nmember\tr\t0\t0\nmember\te\t8\t3\nmember\ts\t9\t2\n",
     ];
-    let pieces: [&[u8]; 16] = [
+    let pieces: [&[u8]; 17] = [
         b"\t", b"\n", b"0", b"1", b"9", b"-", b"\r", b" ", b"64", b"int", b"value", b"member",
-        b"a", b"LE", b"keep", b"\x80",
+        b"a", b"LE", b"keep", b"\x80", b"real",
     ];
     let mut state = 1_u64;
     let mut below = |n: usize| {
@@ -487,13 +522,13 @@ fn damaged_sheets() {
     };
     let (mut faulty, mut good) = (0, 0);
     for _ in 0..20_000 {
-        let mut sheet = sheets[below(3)].to_vec();
+        let mut sheet = sheets[below(4)].to_vec();
         for _ in 0..=below(2) {
             let at = below(sheet.len());
             match below(4) {
                 0 => drop(sheet.remove(at)),
-                1 => drop(sheet.splice(at..at, pieces[below(16)].iter().copied())),
-                2 => drop(sheet.splice(at..=at, pieces[below(16)].iter().copied())),
+                1 => drop(sheet.splice(at..at, pieces[below(17)].iter().copied())),
+                2 => drop(sheet.splice(at..=at, pieces[below(17)].iter().copied())),
                 _ => {
                     // a line twice, or moved
                     let lines: Vec<&[u8]> = sheet.split_inclusive(|&b| b == 10).collect();

@@ -22,6 +22,13 @@ pub fn case(random: &mut Random, tally: &mut Tally, spoil: u64) -> Result<(), St
     finish(random, tally, &run)
 }
 
+/// A run between ints and reals.
+pub fn real_case(random: &mut Random, tally: &mut Tally) -> Result<(), String> {
+    let (from, to) = generate::reals(random);
+    let run = make(random, 1, from.text(), to.text());
+    finish(random, tally, &run)
+}
+
 /// A run between sheets at the limits.
 pub fn limit_case(random: &mut Random, tally: &mut Tally) -> Result<(), String> {
     let (from, to) = if random.percent(60) {
@@ -36,7 +43,7 @@ pub fn limit_case(random: &mut Random, tally: &mut Tally) -> Result<(), String> 
 
 /// 65,536 records of a few bytes.
 pub fn long_case(random: &mut Random, tally: &mut Tally) -> Result<(), String> {
-    let model = generate::sheet(random, 3);
+    let model = few_bytes(random);
     let (from, to) = (model.text(), derive(random, &model).text());
     let mut run = make(random, 0, from, to);
     run.count = 65_536;
@@ -69,6 +76,12 @@ pub fn with_types<T>(
 ) -> Option<T> {
     let (from, to) = (sheet::read(from).ok()?, sheet::read(to).ok()?);
     paths::has_path(&from, &to).then(|| then(&from, &to, &paths::matches(&from, &to)))
+}
+
+/// A model of a record of a few bytes, or of a real.
+pub fn few_bytes(random: &mut Random) -> Model {
+    let bytes = *random.pick(&[3, 3, 3, 8]);
+    generate::sheet(random, bytes)
 }
 
 /// A model for a source sheet of any of several scales.

@@ -55,7 +55,7 @@ const LARGE: [&str; 14] = [
 ];
 
 /// Lines that are faulty, or turn on a bound, or stand where they may not.
-const LINES: [&str; 28] = [
+const LINES: [&str; 39] = [
     "array\t0\t65536\t65536\t65536\t65536",
     "array\t0\t65536\t65536",
     "array\t0\t4294967295\t4294967295\t4294967295\t4294967295",
@@ -76,6 +76,17 @@ const LINES: [&str; 28] = [
     "int\t536870912\tBE\t0\t64\tzero\tzero\tsigned",
     "bits\t1\tLE\t0\t8\tzero\tzero\tunsigned",
     "bits\t1\tLE\t0\t8\tzero\tzero",
+    "real\t8\tLE",
+    "real\t8\tBE",
+    "real\t4\tLE",
+    "real\t16\tBE",
+    "real\t08\tBE",
+    "real\t4294967304\tLE",
+    "real\t8\tle",
+    "real\t8",
+    "real",
+    "real\t8\tLE\t0",
+    "real\t8\tBE\t0\t64\tzero\tzero",
     "comp\t4096",
     "comp\t4097",
     "comp\t0",
@@ -86,9 +97,9 @@ const LINES: [&str; 28] = [
     "",
 ];
 
-const WORDS: [&str; 18] = [
+const WORDS: [&str; 20] = [
     "int", "bits", "enum", "comp", "array", "value", "member", "LE", "BE", "zero", "one", "keep",
-    "signed", "unsigned", "le", "Int", "keep ", "values",
+    "signed", "unsigned", "le", "Int", "keep ", "values", "real", "Real",
 ];
 
 /// One damage, at times two. The sheet may still be valid.

@@ -1,7 +1,7 @@
 //! Makes a sheet from another one: renamed, added, dropped and moved
 //! members, other layouts, other enums, other dimensions.
 
-use crate::generate::{add_value, atomic, new_name, place};
+use crate::generate::{add_value, atomic, new_name, order, place};
 use crate::model::{Line, Model, Row};
 use crate::random::Random;
 use independent::datatype::Atomic;
@@ -10,7 +10,7 @@ use independent::datatype::Atomic;
 pub fn derive(random: &mut Random, model: &Model) -> Model {
     let mut derived = model.clone();
     let layouts = model.earlier(model.types.len(), |line, _| {
-        matches!(line, Line::Int(_) | Line::Bits(_))
+        matches!(line, Line::Int(_) | Line::Bits(_) | Line::Real(_))
     });
     for _ in 0..random.below(9) {
         let mut chosen = random.below(derived.types.len() as u64) as usize;
@@ -35,13 +35,29 @@ fn change(random: &mut Random, model: &mut Model, chosen: usize) {
         Line::Int(layout) => {
             *layout = other_layout(random, layout);
             let used = |line: &Line| matches!(line, Line::Enum { base, .. } if *base == chosen);
-            if random.percent(3) && !model.types.iter().any(used) {
-                line = Line::Bits(Atomic {
-                    signed: false,
-                    ..*layout
-                });
+            if !model.types.iter().any(used) {
+                match random.below(100) {
+                    0..=2 => {
+                        line = Line::Bits(Atomic {
+                            signed: false,
+                            ..*layout
+                        });
+                    }
+                    3..=22 => line = Line::Real(order(random)),
+                    _ => {}
+                }
             }
         }
+        Line::Real(own) => match random.below(100) {
+            0..=49 => line = Line::Int(atomic(random, 8)),
+            50..=51 => {
+                line = Line::Bits(Atomic {
+                    signed: false,
+                    ..atomic(random, 8)
+                });
+            }
+            _ => *own = order(random),
+        },
         Line::Bits(layout) => {
             *layout = Atomic {
                 signed: false,

@@ -1,5 +1,6 @@
 //! Notes what a run has met.
 
+use crate::real_events;
 use crate::run::{Run, Seen};
 use crate::tally::Tally;
 use independent::datatype::Datatype;
@@ -30,6 +31,7 @@ pub fn note(tally: &mut Tally, run: &Run, seen: &Seen) {
         tally.saw("done of 65,536 records");
     }
     note_sizes(tally, run, number);
+    real_events::note(tally, run, number);
     note_pairs(tally, run);
 }
 

@@ -1,6 +1,6 @@
-//! Makes valid sheets: nested compounds, arrays, enums, bits and ints.
+//! Makes valid sheets: nested compounds, arrays, enums, bits, reals and ints.
 
-use crate::model::{Line, Model, Name, Row};
+use crate::model::{Line, Model, Name, REAL_BYTES, Row};
 use crate::random::Random;
 use independent::datatype::{Atomic, Order, Pad};
 
@@ -48,6 +48,10 @@ impl Maker<'_> {
             0 | 1 if depth > 0 => self.array(bytes, depth),
             2..=6 if depth > 0 => self.compound(bytes, depth),
             7 => self.enumeration(bytes),
+            _ if bytes >= REAL_BYTES && self.random.percent(35) => {
+                let order = order(self.random);
+                self.model.push(Line::Real(order))
+            }
             8 => {
                 let layout = atomic(self.random, bytes);
                 self.model.push(Line::Bits(Atomic {
@@ -114,6 +118,52 @@ impl Maker<'_> {
     }
 }
 
+/// Two sheets of a few ints and reals under the same names, most of them a real
+/// in one of the two.
+pub fn reals(random: &mut Random) -> (Model, Model) {
+    let (mut from, mut to) = (Model::default(), Model::default());
+    let (mut members, mut others): (Vec<Row>, Vec<Row>) = (Vec::new(), Vec::new());
+    for _ in 0..random.between(1, 7) {
+        let name = new_name(random, |name| members.iter().any(|row| row.name == name));
+        let (first, second) = match random.below(5) {
+            0 | 1 => (Line::Int(wide(random)), Line::Real(order(random))),
+            2 | 3 => (Line::Real(order(random)), Line::Int(wide(random))),
+            _ => (Line::Real(order(random)), Line::Real(order(random))),
+        };
+        let add = |model: &mut Model, rows: &mut Vec<Row>, line| {
+            let datatype = model.push(line);
+            let name = name.clone();
+            rows.push(Row {
+                name,
+                at: 0,
+                datatype,
+            });
+        };
+        add(&mut from, &mut members, first);
+        add(&mut to, &mut others, second);
+    }
+    for (model, mut rows) in [(&mut from, members), (&mut to, others)] {
+        let size = place(random, model, &mut rows, 80);
+        model.push(Line::Comp {
+            size,
+            members: rows,
+        });
+    }
+    (from, to)
+}
+
+/// Any valid atomic layout, mostly with more bits than a double holds.
+fn wide(random: &mut Random) -> Atomic {
+    let mut layout = atomic(random, 8);
+    if random.percent(60) {
+        let precision = *random.pick(&[64, 64, 63, 56, 55, 54, 53]);
+        layout.size = 8;
+        layout.precision = precision;
+        layout.offset = random.between(0, 64 - precision);
+    }
+    layout
+}
+
 /// Places members in any order, often with gaps; gives a size with room for
 /// them, at most `bytes`.
 pub fn place(random: &mut Random, model: &Model, members: &mut [Row], bytes: u64) -> u64 {
@@ -146,6 +196,10 @@ pub fn add_value(random: &mut Random, range: (i128, i128), values: &mut Vec<(Nam
     }
 }
 
+pub fn order(random: &mut Random) -> Order {
+    *random.pick(&[Order::LittleEndian, Order::BigEndian])
+}
+
 /// Any valid atomic layout of at most `bytes` bytes.
 pub fn atomic(random: &mut Random, bytes: u64) -> Atomic {
     let size = random.between(1, bytes.min(8));
@@ -162,7 +216,7 @@ pub fn atomic(random: &mut Random, bytes: u64) -> Atomic {
     };
     Atomic {
         size,
-        order: *random.pick(&[Order::LittleEndian, Order::BigEndian]),
+        order: order(random),
         offset,
         precision,
         lsb: *random.pick(&[Pad::Zero, Pad::One, Pad::Keep]),

@@ -35,8 +35,11 @@ pub fn valid(random: &mut Random) -> Model {
 fn types(random: &mut Random, count: usize) -> Model {
     let mut model = Model::default();
     while model.types.len() < count - 1 {
-        let layout = atomic(random, 8);
-        model.push(Line::Int(layout));
+        let line = match random.below(6) {
+            0 => Line::Real(generate::order(random)),
+            _ => Line::Int(atomic(random, 8)),
+        };
+        model.push(line);
     }
     let base = random.below(count as u64 - 1) as usize;
     let dimensions = vec![random.between(1, 9)];
@@ -141,9 +144,12 @@ fn deep(random: &mut Random, count: usize) -> Model {
 /// Records of exactly so many bytes, and many leaves.
 fn large(random: &mut Random, bytes: u64) -> Model {
     let mut model = Model::default();
-    let layout = atomic(random, 4);
-    let base = model.push(Line::Int(layout));
-    let most = bytes / layout.size;
+    let line = match random.below(4) {
+        0 => Line::Real(generate::order(random)),
+        _ => Line::Int(atomic(random, 4)),
+    };
+    let base = model.push(line);
+    let most = bytes / model.size(base);
     if random.percent(50) {
         model.push(Line::Array {
             base,

@@ -50,6 +50,7 @@ fn line(random: &mut Random, grown: &Grown) -> Vec<u8> {
             near(random, &[1, 2, 8, 20, 20, 4095, 4096]),
         ],
         (6 | 7, _) => array(random, grown),
+        _ if random.percent(25) => real(random),
         _ => atomic(random),
     };
     if random.percent(3) {
@@ -114,6 +115,14 @@ fn atomic(random: &mut Random) -> Vec<Vec<u8>> {
         fields.push(word(random, &["signed", "unsigned"]));
     }
     fields
+}
+
+fn real(random: &mut Random) -> Vec<Vec<u8>> {
+    vec![
+        b"real".to_vec(),
+        near(random, &[8, 8, 8, 8, 8, 4, 16, 0]),
+        word(random, &["LE", "BE"]),
+    ]
 }
 
 /// A type number, mostly one that may stand here.

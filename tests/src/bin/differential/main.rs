@@ -15,8 +15,10 @@ mod limits;
 mod lines;
 mod model;
 mod others;
+mod patterns;
 mod properties;
 mod random;
+mod real_events;
 mod records;
 mod report_events;
 mod report_laws;
@@ -109,7 +111,7 @@ fn run_cases(options: &Options) -> bool {
 }
 
 fn run_case(random: &mut Random, tally: &mut Tally) -> Result<(), String> {
-    let choice = random.below(1250);
+    let choice = random.below(1300);
     let (kind, result) = match choice {
         0 => (
             "conversion of 65,536 records",
@@ -141,7 +143,8 @@ fn run_case(random: &mut Random, tally: &mut Tally) -> Result<(), String> {
             "report with many refusals",
             reports::case(random, tally, 25),
         ),
-        _ => ("report's laws", report_laws::case(random, tally)),
+        1195..=1249 => ("report's laws", report_laws::case(random, tally)),
+        _ => ("conversion of reals", convert::real_case(random, tally)),
     };
     tally.saw(&format!("case: {kind}"));
     result.map_err(|fault| format!("({kind}) {fault}"))

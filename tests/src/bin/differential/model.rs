@@ -5,10 +5,13 @@ use independent::number;
 
 pub type Name = Vec<u8>;
 
+pub const REAL_BYTES: u64 = 8;
+
 #[derive(Clone)]
 pub enum Line {
     Int(Atomic),
     Bits(Atomic),
+    Real(Order),
     Enum {
         base: usize,
         values: Vec<(Name, i128)>,
@@ -46,6 +49,7 @@ impl Model {
     pub fn size(&self, datatype: usize) -> u64 {
         match &self.types[datatype] {
             Line::Int(layout) | Line::Bits(layout) => layout.size,
+            Line::Real(_) => REAL_BYTES,
             Line::Enum { base, .. } => self.size(*base),
             Line::Comp { size, .. } => *size,
             Line::Array { base, dimensions } => dimensions
@@ -95,6 +99,7 @@ fn write_type(text: &mut Vec<u8>, line: &Line) {
             put(text, &format!("int\t{}\t{sign}\n", atomic(layout)));
         }
         Line::Bits(layout) => put(text, &format!("bits\t{}\n", atomic(layout))),
+        Line::Real(order) => put(text, &format!("real\t{REAL_BYTES}\t{}\n", word(*order))),
         Line::Enum { base, values } => {
             put(text, &format!("enum\t{base}\n"));
             for (name, number) in values {
@@ -125,19 +130,23 @@ fn put(text: &mut Vec<u8>, words: &str) {
     text.extend(words.as_bytes());
 }
 
-fn atomic(layout: &Atomic) -> String {
-    let order = match layout.order {
+fn word(order: Order) -> &'static str {
+    match order {
         Order::LittleEndian => "LE",
         Order::BigEndian => "BE",
-    };
+    }
+}
+
+fn atomic(layout: &Atomic) -> String {
     let pad = |pad| match pad {
         Pad::Zero => "zero",
         Pad::One => "one",
         Pad::Keep => "keep",
     };
     format!(
-        "{}\t{order}\t{}\t{}\t{}\t{}",
+        "{}\t{}\t{}\t{}\t{}\t{}",
         layout.size,
+        word(layout.order),
         layout.offset,
         layout.precision,
         pad(layout.lsb),

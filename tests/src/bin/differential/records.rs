@@ -1,22 +1,27 @@
 //! Bytes of source records: random, at the edges, or with numbers chosen
 //! for the destination.
 
+use crate::patterns::{beside, near_tie, pattern, whole_double};
 use crate::random::Random;
 use independent::datatype::{Atomic, Datatype, Pad};
 use independent::number;
 use independent::paths::Match;
+use independent::real;
 
 /// Source records for matched leaves. Pad bits and gaps are random.
 pub fn records(random: &mut Random, size: u64, count: u64, matches: &[Match]) -> Vec<u8> {
     let mut bytes = random.bytes((size * count) as usize);
     // In how many of a hundred leaves the number may raise an exception.
     let share = *random.pick(&[0, 0, 0, 3, 30, 100]);
-    if share == 100 || matches.is_empty() || count == 0 {
+    if matches.is_empty() || count == 0 {
         return bytes;
     }
     for record in bytes.chunks_mut(size as usize) {
         for pair in matches {
-            let number = if random.percent(share) {
+            let number = if share == 100 {
+                // The random bytes, but for reals.
+                is_real(pair.from.datatype).then(|| i128::from(pattern(random)))
+            } else if random.percent(share) {
                 edge(random, pair)
             } else {
                 fitting(random, pair)
@@ -76,14 +81,53 @@ pub fn fitting(random: &mut Random, pair: &Match) -> Option<i128> {
     }
     let (low, high) = number::range(number::layout(pair.from.datatype));
     let (least, most) = number::range(number::layout(pair.to.datatype));
-    Some(random.number(low.max(least), high.min(most)))
+    let number = match (is_real(pair.from.datatype), is_real(pair.to.datatype)) {
+        (false, false) => random.number(low.max(least), high.min(most)),
+        (true, true) => i128::from(pattern(random)),
+        (false, true) => double_within(random, (low, high)),
+        (true, false) => {
+            let number = double_within(random, (least, most));
+            i128::from(real::from_int(number).0)
+        }
+    };
+    Some(number)
+}
+
+fn is_real(leaf: &Datatype) -> bool {
+    matches!(leaf, Datatype::Real(_))
+}
+
+/// A number of a range that is a double.
+fn double_within(random: &mut Random, (low, high): (i128, i128)) -> i128 {
+    for _ in 0..8 {
+        let number = if random.percent(50) {
+            random.number(low, high)
+        } else {
+            whole_double(random)
+        };
+        let is_double = real::from_int(number).1.is_none();
+        if is_double && (low..=high).contains(&number) {
+            return number;
+        }
+    }
+    0
 }
 
 /// A number just past an end of the destination's range, if the source's
-/// has it; for an enum any number.
+/// has it; for an enum any number; for reals also ties, fractions and what is
+/// no number.
 fn edge(random: &mut Random, pair: &Match) -> Option<i128> {
     let (low, high) = number::range(number::layout(pair.from.datatype));
     let (least, most) = number::range(number::layout(pair.to.datatype));
+    match (is_real(pair.from.datatype), is_real(pair.to.datatype)) {
+        (false, true) if random.percent(70) => return Some(near_tie(random).clamp(low, high)),
+        (true, false) if random.percent(60) => {
+            let end = *random.pick(&[least - 1, least, most, most + 1, 0]);
+            return Some(i128::from(beside(random, end)));
+        }
+        (true, _) => return Some(i128::from(pattern(random))),
+        _ => {}
+    }
     let number = match random.below(3) {
         0 => least - 1,
         1 => most + 1,

@@ -1,6 +1,7 @@
 //! Notes what a call of the report has met.
 
 use crate::held::MOST;
+use crate::real_events;
 use crate::report_run::{ReportRun, ReportSeen, expected};
 use crate::tally::Tally;
 use independent::datatype::Datatype;
@@ -26,6 +27,7 @@ pub fn note(tally: &mut Tally, run: &ReportRun, seen: &ReportSeen) {
         0 => {
             note_done(tally, run, seen);
             note_leaves(tally, from, to);
+            real_events::note_report(tally, run, from, to);
         }
         7 => note_short(tally, run, to),
         10 => note_wide(tally, to),

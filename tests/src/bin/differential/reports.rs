@@ -2,7 +2,6 @@
 
 use crate::convert::{self, large_count, length, resize, small_count, with_types};
 use crate::derive::{derive, mend};
-use crate::generate;
 use crate::held::{self, held, spoil_words};
 use crate::limits;
 use crate::model::{Line, Model};
@@ -34,7 +33,7 @@ pub fn limit_case(random: &mut Random, tally: &mut Tally) -> Result<(), String> 
 
 /// 65,536 records of a few bytes.
 pub fn long_case(random: &mut Random, tally: &mut Tally) -> Result<(), String> {
-    let model = generate::sheet(random, 3);
+    let model = convert::few_bytes(random);
     let reader = derive(random, &model);
     let reader = reader_of(random, 0, &reader);
     let mut run = make(random, 0, model.text(), reader.text());

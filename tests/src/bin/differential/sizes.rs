@@ -2,6 +2,7 @@
 
 use crate::capi;
 use crate::random::Random;
+use crate::real_events;
 use crate::run::{self, Run, Seen};
 use crate::tally::Tally;
 use independent::sheet;
@@ -42,6 +43,7 @@ fn note(tally: &mut Tally, text: &[u8], seen: &Seen) {
         0 if size == 4096 => tally.saw("record size 4,096"),
         2 if sheet::read(text).is_err() => tally.saw("record size, 2 and 3 at once"),
         3 if line == 0 => tally.saw("record size, SOURCE at line 0"),
+        3 => real_events::note_fault(tally, text, line),
         _ => {}
     }
 }

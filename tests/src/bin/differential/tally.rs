@@ -1,6 +1,7 @@
 //! What was seen, and what must have been seen for the tests to mean
 //! something.
 
+use crate::real_events;
 use crate::run::{FORMS, Form};
 use std::collections::BTreeMap;
 
@@ -8,11 +9,12 @@ use std::collections::BTreeMap;
 pub struct Tally(BTreeMap<String, u64>);
 
 /// Beside the answers, what a whole run must have met.
-const NEEDED: [&str; 93] = [
+const NEEDED: [&str; 97] = [
     "case: conversion",
     "case: conversion with many refusals",
     "case: conversion at the limits",
     "case: conversion of 65,536 records",
+    "case: conversion of reals",
     "case: leaf list",
     "case: setters",
     "case: properties",
@@ -24,6 +26,9 @@ const NEEDED: [&str; 93] = [
     "STOP kind 1",
     "STOP kind 2",
     "STOP kind 3",
+    "STOP kind 4",
+    "STOP kind 5",
+    "STOP kind 6",
     "SOURCE at line 0",
     "DESTINATION at line 0",
     "SOURCE past line 250",
@@ -126,7 +131,13 @@ impl Tally {
 
     /// What a whole run should have met and did not.
     pub fn missing(&self) -> Vec<String> {
-        let mut needed: Vec<String> = NEEDED.iter().map(|what| what.to_string()).collect();
+        let lists = [
+            &NEEDED[..],
+            &real_events::NEEDED,
+            &real_events::REPORT_NEEDED,
+        ];
+        let all = lists.iter().flat_map(|list| list.iter());
+        let mut needed: Vec<String> = all.map(|what| what.to_string()).collect();
         needed.extend(answers());
         needed.retain(|what| !self.0.contains_key(what));
         needed
