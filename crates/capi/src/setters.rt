@@ -2,7 +2,7 @@
 ghost use mathlib.Core.Path.{_≡_};
 ghost use mathlib.Core.Bool.{true, _&&_};
 ghost use lib.Dec.{leb};
-ghost use Rattle.layout.specs.Setters.Edit.{size as ofSize, order as ofOrder, precision as ofPrecision, offset as ofOffset, pads as ofPads, sign as ofSign};
+ghost use Rattle.layout.specs.Setters.Edit.{size as ofSize, field as ofField, order as ofOrder, pads as ofPads, sign as ofSign};
 ghost use Rattle.layout_words.specs.Codes.{orderOf, padOf, signOf, setterCall};
 
 #[no_mangle]
@@ -13,24 +13,17 @@ pub extern "C" fn yirvagul_set_size(layout: &mut [u32; 8], size: u32) -> u32
 }
 
 #[no_mangle]
+pub extern "C" fn yirvagul_set_field(layout: &mut [u32; 8], offset: u32, precision: u32) -> u32
+    ensures { λ r. ⌜ record { number = r; words = now (layout .exit) } ≡ setterCall true (ofField offset precision) (now (layout .entry)) ⌝ }
+{
+    layout_words::setters::set_field(layout, offset, precision)
+}
+
+#[no_mangle]
 pub extern "C" fn yirvagul_set_order(layout: &mut [u32; 8], order: u32) -> u32
     ensures { λ r. ⌜ record { number = r; words = now (layout .exit) } ≡ setterCall (leb order 1) (ofOrder (orderOf order)) (now (layout .entry)) ⌝ }
 {
     layout_words::setters::set_order(layout, order)
-}
-
-#[no_mangle]
-pub extern "C" fn yirvagul_set_precision(layout: &mut [u32; 8], precision: u32) -> u32
-    ensures { λ r. ⌜ record { number = r; words = now (layout .exit) } ≡ setterCall true (ofPrecision precision) (now (layout .entry)) ⌝ }
-{
-    layout_words::setters::set_precision(layout, precision)
-}
-
-#[no_mangle]
-pub extern "C" fn yirvagul_set_offset(layout: &mut [u32; 8], offset: u32) -> u32
-    ensures { λ r. ⌜ record { number = r; words = now (layout .exit) } ≡ setterCall true (ofOffset offset) (now (layout .entry)) ⌝ }
-{
-    layout_words::setters::set_offset(layout, offset)
 }
 
 #[no_mangle]

@@ -1,4 +1,4 @@
-// Runs exercises of document 01 through the code, and prints each answer beside its text.
+// Runs exercises of documents 01 and 02 through the code, and prints each answer beside its text.
 use bits::BitAt;
 use bits::ByteAt;
 use bits::Order;
@@ -9,8 +9,7 @@ use numbers_shown::int;
 use numbers_shown::plain;
 use numbers_shown::read;
 use numbers_shown::write;
-use place_setters::set_offset;
-use place_setters::set_precision;
+use place_setters::set_field;
 use place_setters::set_size;
 use shown::show;
 
@@ -98,10 +97,19 @@ fn edits() {
     let l = plain(4, Order::LE, 16, 16, false);
     edit(b"size 3: ", set_size(l, ByteAt(3)));
     edit(b"size 1: ", set_size(l, ByteAt(1)));
-    edit(b"precision 20: ", set_precision(l, 20));
-    edit(b"precision 40: ", set_precision(l, 40));
-    edit(b"offset 48: ", set_offset(l, BitAt(48)));
-    edit(b"offset 49: ", set_offset(l, BitAt(49)));
+    edit(b"field 12, 20: ", set_field(l, BitAt(12), 20));
+    edit(b"field 0, 40: ", set_field(l, BitAt(0), 40));
+    edit(b"field 48, 16: ", set_field(l, BitAt(48), 16));
+    edit(b"field 49, 16: ", set_field(l, BitAt(49), 16));
+}
+
+// The last field decides, and an earlier one shows in the size alone.
+fn fields() {
+    let l = plain(1, Order::LE, 0, 8, false);
+    let first = set_field(l, BitAt(0), 40);
+    let wide = first.layout;
+    edit(b"field 0, 40, then 0, 8: ", set_field(wide, BitAt(0), 8));
+    edit(b"field 0, 8 alone: ", set_field(l, BitAt(0), 8));
 }
 
 fn main() {
@@ -109,4 +117,6 @@ fn main() {
     conversions();
     show(b"From size 4, offset 16, precision 16:\n");
     edits();
+    show(b"From size 1, offset 0, precision 8:\n");
+    fields();
 }

@@ -1,7 +1,7 @@
--- Document 01, "Setters": each takes a layout and an argument, and gives the answer and the layout after it.
+-- Document 01, "Setters", and document 02, 2026-04: each takes a layout and arguments, and gives the answer and the layout after it.
 use mathlib.Core.Bool.{Bool, true, false, cond, _&&_}
 use mathlib.Core.List.{List, [], _∷_}
-use Prim.Native.Nat.{ℕ, _+_, _-_, _*_, _/_, min, max}
+use Prim.Native.Nat.{ℕ, _+_, _-_, _*_, _/_, min}
 use lib.Dec.{leb}
 use Rattle.answer.specs.declared.Answer.the-variants.{Done, Range}
 use Rattle.bits.specs.declared.Order.{Order}
@@ -30,23 +30,17 @@ bytesFor n = (n + 7) / 8
 unfoldable pub setSize : Layout → ℕ → Edited
 setSize l s = edited l (leb 1 s && leb s 8) (resized l s (min (l .offset .0) (8 * s - min (l .precision) (8 * s))) (min (l .precision) (8 * s)))
 
--- "precision p': 1..64. If o + p' ≤ 8s, only p changes. Else o' = max(0, 8s − p') and s' = max(s, p'/8 rounded up)."
--- A difference of natural numbers is never below 0.
-abbrev pub withPrecision : Layout → ℕ → Layout
-withPrecision l p =
-    cond (leb (l .offset .0 + p) (8 * l .size .0))
-    (resized l (l .size .0) (l .offset .0) p)
-    (resized l (max (l .size .0) (bytesFor p)) (8 * l .size .0 - p) p)
+-- Document 02, 2026-04, with o and p for the new offset and precision: "grows size only if o' + p' passes 8 × size, to the least that holds it"
+abbrev pub sizeWithField : Layout → ℕ → ℕ → ℕ
+sizeWithField l o p = cond (leb (o + p) (8 * l .size .0)) (l .size .0) (bytesFor (o + p))
 
-unfoldable pub setPrecision : Layout → ℕ → Edited
-setPrecision l p = edited l (leb 1 p && leb p 64) (withPrecision l p)
+-- "o' from 0 and p' from 1 to 64", "RANGE if size would pass 8"
+abbrev pub fieldAllowed : Layout → ℕ → ℕ → Bool
+fieldAllowed l o p = leb 1 p && leb p 64 && leb (sizeWithField l o p) 8
 
--- "offset o': s' = max(s, (o' + p)/8 rounded up). Refused if s' would pass 8."
-abbrev pub sizeAtOffset : Layout → ℕ → ℕ
-sizeAtOffset l o = max (l .size .0) (bytesFor (o + l .precision))
-
-unfoldable pub setOffset : Layout → ℕ → Edited
-setOffset l o = edited l (leb (sizeAtOffset l o) 8) (resized l (sizeAtOffset l o) o (l .precision))
+-- "one call takes both .. leaves exactly these"
+unfoldable pub setField : Layout → ℕ → ℕ → Edited
+setField l o p = edited l (fieldAllowed l o p) (resized l (sizeWithField l o p) o p)
 
 -- "Order, pads and sign change only themselves; sign on a bits layout is refused."
 unfoldable pub setOrder : Layout → Order → Edited
@@ -72,15 +66,15 @@ setSign l signed =
 
 -- one call of a setter, with its arguments
 pub data Edit : Type 0 where
-  size precision offset : ℕ → Edit
+  size : ℕ → Edit
+  field : ℕ → ℕ → Edit  -- offset, then precision
   order : Order → Edit
   pads : Pad → Pad → Edit
   sign : Bool → Edit
 
 abbrev pub edit : Edit → Layout → Edited
 edit (size s) l = setSize l s
-edit (precision p) l = setPrecision l p
-edit (offset o) l = setOffset l o
+edit (field o p) l = setField l o p
 edit (order o) l = setOrder l o
 edit (pads lsb msb) l = setPads l lsb msb
 edit (sign signed) l = setSign l signed

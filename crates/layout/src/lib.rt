@@ -59,7 +59,7 @@ pub fn precision_allowed(precision: u32) -> bool
 }
 
 // Whether precision bits from offset on lie within size bytes. The precision is tested first, so that no difference wraps.
-pub fn fits(offset: BitAt, precision: u32, size: ByteAt) -> bool
+fn fits(offset: BitAt, precision: u32, size: ByteAt) -> bool
     requires { ⌜ size .0 ≤ 8 ⌝ }
     ensures { λ r. ⌜ r ≡ leb (offset .0 + precision) (8 * size .0) ⌝ }
 {

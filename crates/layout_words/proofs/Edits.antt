@@ -14,9 +14,9 @@ use Rattle.answer.specs.Answer.{numberOf}
 use Rattle.layout.specs.declared.Layout.{Layout}
 use Rattle.layout.specs.declared.Edited.{Edited}
 use Rattle.layout.specs.Layout.{valid}
-use Rattle.layout.specs.Setters.{edited, setSize, setOrder, setPrecision, setOffset, setPads, setSign}
+use Rattle.layout.specs.Setters.{edited, setSize, setField, setOrder, setPads, setSign}
 use Rattle.layout.specs.Setters.{Edit, edit}
-use Rattle.layout.specs.Setters.Edit.{size, precision, offset, order, pads, sign}
+use Rattle.layout.specs.Setters.Edit.{size, field, order, pads, sign}
 use Rattle.layout.proofs.Valid.{facts}
 use Rattle.layout.proofs.Keeps.{edit-keeps}
 use Rattle.layout_words.specs.Codes.{classCode, orderCode, padCode, signCode, layoutWords, classOf, orderOf, padOf, signOf, isCoded, layoutOf, outcome, setterCall}
@@ -34,10 +34,9 @@ edited-ends l m allowed = go (valid l) refl allowed
     go false v u = inr (rw v)
 
 ends : (e : Edit) (l : Layout) → Ends l (edit e l)
-unfolding setSize setPrecision setOffset setOrder setPads setSign
+unfolding setSize setField setOrder setPads setSign
 ends (size s) l = edited-ends l _ _
-ends (precision p) l = edited-ends l _ _
-ends (offset o) l = edited-ends l _ _
+ends (field o p) l = edited-ends l _ _
 ends (order o) l = edited-ends l _ true
 ends (pads lsb msb) l = edited-ends l _ true
 ends (sign signed) l = edited-ends l _ _

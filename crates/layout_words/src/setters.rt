@@ -3,7 +3,7 @@ ghost use mathlib.Core.Path.{_≡_};
 ghost use mathlib.Core.Bool.{true, _&&_};
 ghost use Prim.Native.Nat.{_<_, _^_};
 ghost use lib.Dec.{leb};
-ghost use Rattle.layout.specs.Setters.Edit.{size as ofSize, order as ofOrder, precision as ofPrecision, offset as ofOffset, pads as ofPads, sign as ofSign};
+ghost use Rattle.layout.specs.Setters.Edit.{size as ofSize, field as ofField, order as ofOrder, pads as ofPads, sign as ofSign};
 ghost use Rattle.layout_words.specs.Codes.{orderOf, padOf, signOf, outcome, setterCall};
 use crate::BE;
 use crate::KEEP;
@@ -44,28 +44,20 @@ pub fn set_size(layout: &mut [u32; 8], size: u32) -> u32
     put(is_coded(w), e, layout)
 }
 
+pub fn set_field(layout: &mut [u32; 8], offset: u32, precision: u32) -> u32
+    ensures { λ r. ⌜ record { number = r; words = now (layout .exit) } ≡ setterCall true (ofField offset precision) (now (layout .entry)) ⌝ }
+{
+    let w = *layout;
+    let e = place_setters::set_field(layout_of(w), BitAt(offset), precision);
+    put(is_coded(w), e, layout)
+}
+
 pub fn set_order(layout: &mut [u32; 8], order: u32) -> u32
     ensures { λ r. ⌜ record { number = r; words = now (layout .exit) } ≡ setterCall (leb order 1) (ofOrder (orderOf order)) (now (layout .entry)) ⌝ }
 {
     let w = *layout;
     let e = style_setters::set_order(layout_of(w), order_of(order));
     put(both(order <= BE, is_coded(w)), e, layout)
-}
-
-pub fn set_precision(layout: &mut [u32; 8], precision: u32) -> u32
-    ensures { λ r. ⌜ record { number = r; words = now (layout .exit) } ≡ setterCall true (ofPrecision precision) (now (layout .entry)) ⌝ }
-{
-    let w = *layout;
-    let e = place_setters::set_precision(layout_of(w), precision);
-    put(is_coded(w), e, layout)
-}
-
-pub fn set_offset(layout: &mut [u32; 8], offset: u32) -> u32
-    ensures { λ r. ⌜ record { number = r; words = now (layout .exit) } ≡ setterCall true (ofOffset offset) (now (layout .entry)) ⌝ }
-{
-    let w = *layout;
-    let e = place_setters::set_offset(layout_of(w), BitAt(offset));
-    put(is_coded(w), e, layout)
 }
 
 pub fn set_pads(layout: &mut [u32; 8], lsb: u32, msb: u32) -> u32

@@ -1,5 +1,5 @@
--- Document 01, "Exercises with answers": the marked ones, its leaf list, two more that tell the remaining classroom errors apart, and numbers to and from the
--- reals of document 02, 2026-03, as one statement over one list, which the checker computes. Assumes nothing.
+-- Document 01, "Exercises with answers": the marked ones that document 02 leaves, with the two of 2026-04; its leaf list, two more that tell the remaining
+-- classroom errors apart, and numbers to and from the reals of document 02, 2026-03, as one statement over one list, which the checker computes. Assumes nothing.
 use mathlib.Core.Path.{_≡_, refl}
 use mathlib.Core.Bool.{Bool, true, false}
 use mathlib.Core.List.{List, [], _∷_, _++_, map}
@@ -18,7 +18,7 @@ use Rattle.layout.specs.declared.Pad.the-variants.{Zero, One, Keep}
 use Rattle.layout.specs.declared.Layout.{Layout}
 use Rattle.layout.specs.Setters as setters
 use Rattle.layout.specs.Setters.{Edit, edit}
-use Rattle.layout.specs.Setters.Edit.{size, precision, offset}
+use Rattle.layout.specs.Setters.Edit.{size, field}
 use Rattle.number.specs.Place.{stored}
 use Rattle.number.specs.Number.{numberAt, fitted}
 use Rattle.reals.specs.Worth as worths
@@ -151,10 +151,8 @@ rows =
     -- setters
     ∷ record { exercise = set (wide LE) (size 3); solution = edited 0 (int 3 LE 8 16 Zero Zero false) }
     ∷ record { exercise = set (wide LE) (size 1); solution = edited 0 (int 1 LE 0 8 Zero Zero false) }
-    ∷ record { exercise = set (wide LE) (precision 20); solution = edited 0 (int 4 LE 12 20 Zero Zero false) }
-    ∷ record { exercise = set (wide LE) (precision 40); solution = edited 0 (int 5 LE 0 40 Zero Zero false) }
-    ∷ record { exercise = set (wide LE) (offset 48); solution = edited 0 (int 8 LE 48 16 Zero Zero false) }
-    ∷ record { exercise = set (wide LE) (offset 49); solution = edited 9 (wide LE) }
+    ∷ record { exercise = set (wide LE) (field 12 20); solution = edited 0 (int 4 LE 12 20 Zero Zero false) }
+    ∷ record { exercise = set (wide LE) (field 0 40); solution = edited 0 (int 5 LE 0 40 Zero Zero false) }
     -- in place, shrinking and growing
     ∷ record {
       exercise =
@@ -180,5 +178,5 @@ rows =
     ∷ []
 
 solved : map (λ (r : Row). solve (r .exercise)) rows ≡ map (λ (r : Row). r .solution) rows
-unfolding rows solve setters.setSize setters.setPrecision setters.setOffset same symbolOf numberNamed leaves.within leaves.leafAt paths.memberNamed paths.hasPath matches.matchAt text.split fields.digits fields.decimal fields.number fields.enumNumber fields.decimalIn fields.eachPrintable fields.name line.column line.order line.pad line.sign line.layoutColumns line.intLine line.bitsLine line.enumLineOf line.valueLineOf line.compoundLineOf line.memberLineOf line.numbers line.arrayLineOf line.realLineOf line.lineKind line.lineOf sheet.typeNumbered sheet.isApart sheet.judge sheet.linesFrom sheet.outcomeOf sheet.sheetOf worths.worth nearest.highest nearest.magnitudeBits reals.intToReal reals.realToIntOf one.reading one.withLeaf one.withLeavesBelow one.kindAt one.raisedBelow one.firstRaising many.joined many.exceptions runs.checksOf runs.stopFrom runs.answer runs.after lists.leafLines lists.leafList listing.answerOf listing.listAfter
+unfolding rows solve setters.setSize setters.setField same symbolOf numberNamed leaves.within leaves.leafAt paths.memberNamed paths.hasPath matches.matchAt text.split fields.digits fields.decimal fields.number fields.enumNumber fields.decimalIn fields.eachPrintable fields.name line.column line.order line.pad line.sign line.layoutColumns line.intLine line.bitsLine line.enumLineOf line.valueLineOf line.compoundLineOf line.memberLineOf line.numbers line.arrayLineOf line.realLineOf line.lineKind line.lineOf sheet.typeNumbered sheet.isApart sheet.judge sheet.linesFrom sheet.outcomeOf sheet.sheetOf worths.worth nearest.highest nearest.magnitudeBits reals.intToReal reals.realToIntOf one.reading one.withLeaf one.withLeavesBelow one.kindAt one.raisedBelow one.firstRaising many.joined many.exceptions runs.checksOf runs.stopFrom runs.answer runs.after lists.leafLines lists.leafList listing.answerOf listing.listAfter
 solved = refl

@@ -1,6 +1,6 @@
 // What the setters share: numbers compared, a layout with some fields changed, and the answer beside it.
 ghost use mathlib.Core.Path.{_≡_};
-ghost use Prim.Native.Nat.{_-_, min, max};
+ghost use Prim.Native.Nat.{min, max};
 ghost use Rattle.layout.specs.Setters.{edited, resized, bytesFor};
 use answer::Answer;
 use bits::BitAt;
@@ -21,13 +21,6 @@ pub fn greatest(a: usize, b: usize) -> usize
     ensures { λ r. ⌜ r ≡ max a b ⌝ }
 {
     if a < b { b } else { a }
-}
-
-// a - b, and 0 where b is greater.
-pub fn minus(a: u32, b: u32) -> u32
-    ensures { λ r. ⌜ r ≡ a - b ⌝ }
-{
-    if a < b { 0 } else { a - b }
 }
 
 // The bytes that n bits need, for any n: n + 7 could wrap.
