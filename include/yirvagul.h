@@ -224,10 +224,9 @@ enum { YIRVAGUL_UNSIGNED = 0, YIRVAGUL_SIGNED = 1 };
 uint32_t yirvagul_set_size(uint32_t layout[8], uint32_t size);
 /* YIRVAGUL_LE or YIRVAGUL_BE. */
 uint32_t yirvagul_set_order(uint32_t layout[8], uint32_t order);
-/* 1 to 64. Where it no longer fits at its offset, the offset moves down and the size grows. */
-uint32_t yirvagul_set_precision(uint32_t layout[8], uint32_t precision);
-/* The size grows to hold the moved bits; RANGE if it would pass 8. */
-uint32_t yirvagul_set_offset(uint32_t layout[8], uint32_t offset);
+/* Any offset, and a precision of 1 to 64: the layout has exactly these. Where they end past its size, that grows to the least that holds them; RANGE if it
+ * would pass 8. */
+uint32_t yirvagul_set_field(uint32_t layout[8], uint32_t offset, uint32_t precision);
 /* YIRVAGUL_PAD_ZERO, YIRVAGUL_PAD_ONE or YIRVAGUL_PAD_KEEP, for the lower bits and for the higher ones. */
 uint32_t yirvagul_set_pads(uint32_t layout[8], uint32_t lsb, uint32_t msb);
 /* YIRVAGUL_UNSIGNED or YIRVAGUL_SIGNED; RANGE on a bits layout. */

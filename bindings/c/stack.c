@@ -192,16 +192,15 @@ typedef enum {
     LIST,
     SIZE,
     SET_SIZE,
+    SET_FIELD,
     SET_ORDER,
-    SET_PRECISION,
-    SET_OFFSET,
     SET_PADS,
     SET_SIGN,
     NONE
 } Form;
 
-static const char *const forms[] = {"copying", "copying, plain", "in place",      "in place, plain", "report",   "list",     "size",
-                                    "set size", "set order",      "set precision", "set offset",      "set pads", "set sign", "nothing"};
+static const char *const forms[] = {"copying",  "copying, plain", "in place",  "in place, plain", "report",   "list", "size",
+                                    "set size", "set field",      "set order", "set pads",        "set sign", "nothing"};
 
 typedef struct {
     Form form;
@@ -242,9 +241,8 @@ static uint32_t run(const Call *c) {
     case LIST: return yirvagul_leaf_list(from, c->from_len, list, c->room, table, c->table_len, answer);
     case SIZE: return yirvagul_record_size(from, c->from_len, table, c->table_len, answer);
     case SET_SIZE: return yirvagul_set_size(layout, c->handling);
+    case SET_FIELD: return yirvagul_set_field(layout, c->handling, c->handling);
     case SET_ORDER: return yirvagul_set_order(layout, c->handling);
-    case SET_PRECISION: return yirvagul_set_precision(layout, c->handling);
-    case SET_OFFSET: return yirvagul_set_offset(layout, c->handling);
     case SET_PADS: return yirvagul_set_pads(layout, c->handling, c->handling);
     case SET_SIGN: return yirvagul_set_sign(layout, c->handling);
     case NONE: return 0;
@@ -438,7 +436,7 @@ static void test_no_path(const char *name, void (*deep)(Sheet *, const char *, i
 
 static void test_setters(void) {
     static const Sheet none;
-    static const uint32_t good[] = {3, 1, 40, 48, 2, 1};
+    static const uint32_t good[] = {3, 32, 1, 2, 1};
     int form;
     for (form = SET_SIZE; form <= SET_SIGN; form++) {
         Call c = call((Form)form, "a setter", &none, &none);

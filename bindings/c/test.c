@@ -280,15 +280,17 @@ static void expect_layout(uint32_t returned, uint32_t number, const uint32_t lay
 static void test_setters(void) {
     uint32_t l[8] = {YIRVAGUL_INT, 4, YIRVAGUL_LE, 16, 16, 0, 0, YIRVAGUL_UNSIGNED};
     const uint32_t shrunk[8] = {0, 3, 0, 8, 16, 0, 0, 0};
-    const uint32_t precise[8] = {0, 3, 0, 4, 20, 0, 0, 0};
-    const uint32_t moved[8] = {0, 5, 0, 20, 20, 0, 0, 0};
+    const uint32_t fitting[8] = {0, 3, 0, 4, 20, 0, 0, 0};
+    const uint32_t grown[8] = {0, 5, 0, 20, 20, 0, 0, 0};
     const uint32_t styled[8] = {0, 5, 1, 20, 20, 1, 2, 1};
     expect_layout(yirvagul_set_size(l, 3), 0, l, shrunk, "size");
     expect_layout(yirvagul_set_size(l, 9), 9, l, shrunk, "size 9");
-    expect_layout(yirvagul_set_precision(l, 20), 0, l, precise, "precision");
-    expect_layout(yirvagul_set_precision(l, 65), 9, l, precise, "precision 65");
-    expect_layout(yirvagul_set_offset(l, 20), 0, l, moved, "offset");
-    expect_layout(yirvagul_set_offset(l, 4294967295u), 9, l, moved, "an offset that would wrap");
+    expect_layout(yirvagul_set_field(l, 4, 20), 0, l, fitting, "a field that fits");
+    expect_layout(yirvagul_set_field(l, 4, 65), 9, l, fitting, "precision 65");
+    expect_layout(yirvagul_set_field(l, 4, 0), 9, l, fitting, "precision 0");
+    expect_layout(yirvagul_set_field(l, 45, 20), 9, l, fitting, "a field past 8 bytes");
+    expect_layout(yirvagul_set_field(l, 20, 20), 0, l, grown, "a field that grows the size");
+    expect_layout(yirvagul_set_field(l, 4294967295u, 1), 9, l, grown, "an offset that would wrap");
     yirvagul_set_order(l, YIRVAGUL_BE);
     yirvagul_set_pads(l, YIRVAGUL_PAD_ONE, YIRVAGUL_PAD_KEEP);
     expect_layout(yirvagul_set_sign(l, YIRVAGUL_SIGNED), 0, l, styled, "order, pads, sign");
@@ -304,9 +306,14 @@ static void test_faulty_layouts(void) {
     const uint32_t kept_bits[8] = {YIRVAGUL_BITS, 1, 0, 0, 8, 0, 0, 0};
     const uint32_t kept_order[8] = {0, 1, 7, 0, 8, 0, 0, 0};
     const uint32_t kept_wide[8] = {0, 1, 0, 1, 8, 0, 0, 0};
+    const uint32_t wide_bits[8] = {YIRVAGUL_BITS, 5, 0, 0, 40, 0, 0, 0};
+    const uint32_t bits_after[8] = {YIRVAGUL_BITS, 5, 0, 0, 8, 0, 0, 0};
     expect_layout(yirvagul_set_sign(bits, YIRVAGUL_SIGNED), 9, bits, kept_bits, "sign on bits");
     expect_layout(yirvagul_set_size(order, 2), 9, order, kept_order, "a layout with no order");
     expect_layout(yirvagul_set_size(wide, 2), 9, wide, kept_wide, "a layout that breaks the rules");
+    expect_layout(yirvagul_set_field(wide, 0, 8), 9, wide, kept_wide, "a field on a layout that breaks the rules");
+    expect_layout(yirvagul_set_field(bits, 0, 40), 0, bits, wide_bits, "a field on bits");
+    expect_layout(yirvagul_set_field(bits, 0, 8), 0, bits, bits_after, "a smaller field, which leaves the size");
 }
 
 /* Nothing is read or written through a pointer whose length is 0. */

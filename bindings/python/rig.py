@@ -40,5 +40,5 @@ print(out[7:].hex(" "))
 print(leaf_list(RIG), end="")
 
 pressure = Layout(Class.INT, 2, Order.BE, 4, 12, Pad.ZERO, Pad.ZERO, Sign.UNSIGNED)
-pressure.set_precision(20)
+pressure.set_field(4, 20)
 print(f"{pressure.size} bytes, offset {pressure.offset}")

@@ -121,13 +121,49 @@ fn setters_follow_the_guide() {
     let start = layout(4, 16, 16);
     assert_eq!(set(start, Setter::Size(3)), (0, layout(3, 8, 16)));
     assert_eq!(set(start, Setter::Size(1)), (0, layout(1, 0, 8)));
-    assert_eq!(set(start, Setter::Precision(20)), (0, layout(4, 12, 20)));
-    assert_eq!(set(start, Setter::Precision(40)), (0, layout(5, 0, 40)));
-    assert_eq!(set(start, Setter::Offset(48)), (0, layout(8, 48, 16)));
-    assert_eq!(set(start, Setter::Offset(49)), (9, start));
-    assert_eq!(set(start, Setter::Offset(u32::MAX)), (9, start));
     let bits: Words = [1, 4, 0, 16, 16, 0, 0, 0];
     assert_eq!(set(bits, Setter::Sign(0)), (9, bits));
+}
+
+#[test]
+fn a_field_is_left_as_asked() {
+    let layout = |size, offset, precision| -> Words { [0, size, 0, offset, precision, 0, 0, 0] };
+    let start = layout(4, 16, 16);
+    let field = |offset, precision| set(start, Setter::Field(offset, precision));
+    assert_eq!(field(12, 20), (0, layout(4, 12, 20)));
+    assert_eq!(field(0, 40), (0, layout(5, 0, 40)));
+    assert_eq!(field(0, 1), (0, layout(4, 0, 1)));
+    assert_eq!(field(17, 16), (0, layout(5, 17, 16)));
+    assert_eq!(field(0, 64), (0, layout(8, 0, 64)));
+    assert_eq!(field(63, 1), (0, layout(8, 63, 1)));
+    for (offset, precision) in [
+        (0, 0),
+        (0, 65),
+        (49, 16),
+        (1, 64),
+        (u32::MAX, 1),
+        (u32::MAX, u32::MAX),
+        (16, 0),
+    ] {
+        assert_eq!(field(offset, precision), (9, start));
+    }
+    let broken = layout(1, 1, 8);
+    assert_eq!(set(broken, Setter::Field(0, 8)), (9, broken));
+    let bits: Words = [1, 4, 0, 16, 16, 0, 0, 0];
+    let wider: Words = [1, 5, 0, 0, 40, 0, 0, 0];
+    assert_eq!(set(bits, Setter::Field(0, 40)), (0, wider));
+}
+
+#[test]
+fn the_last_field_decides() {
+    let byte: Words = [0, 1, 0, 0, 8, 0, 0, 0];
+    let (_, wide) = set(byte, Setter::Field(0, 40));
+    assert_eq!(
+        set(wide, Setter::Field(0, 8)),
+        (0, [0, 5, 0, 0, 8, 0, 0, 0])
+    );
+    assert_eq!(set(byte, Setter::Field(0, 8)), (0, byte));
+    assert_eq!(set(wide, Setter::Field(0, 40)), (0, wide));
 }
 
 #[test]

@@ -18,8 +18,8 @@ const SIGN: usize = 7;
 pub enum Setter {
     Size(u32),
     Order(u32),
-    Precision(u32),
-    Offset(u32),
+    /// Offset, then precision.
+    Field(u32, u32),
     Pads(u32, u32),
     Sign(u32),
 }
@@ -53,8 +53,7 @@ fn changed(layout: Words, setter: Setter) -> Option<Words> {
     let mut result = layout;
     match setter {
         Setter::Size(size) => return set_size(layout, size),
-        Setter::Precision(precision) => return set_precision(layout, precision),
-        Setter::Offset(offset) => return set_offset(layout, offset),
+        Setter::Field(offset, precision) => return set_field(layout, offset, precision),
         Setter::Order(order) if order <= 1 => result[ORDER] = order,
         Setter::Pads(lsb, msb) if lsb <= 2 && msb <= 2 => {
             result[LSB] = lsb;
@@ -80,30 +79,17 @@ fn set_size(layout: Words, size: u32) -> Option<Words> {
     Some(result)
 }
 
-/// "1..64. If o + p' ≤ 8s, only p changes. Else o' = max(0, 8s − p') and
-/// s' = max(s, p'/8 rounded up)."
-fn set_precision(layout: Words, precision: u32) -> Option<Words> {
+/// Document 02, 2026-04: "o' from 0 and p' from 1 to 64, leaves exactly these,
+/// and grows size only if o' + p' passes 8 × size, to the least that holds it".
+/// Refused if that would pass 8.
+fn set_field(layout: Words, offset: u32, precision: u32) -> Option<Words> {
     if !(1..=64).contains(&precision) {
         return None;
     }
+    let end = u64::from(offset) + u64::from(precision);
     let mut result = layout;
-    result[PRECISION] = precision;
-    if layout[OFFSET] + precision > 8 * layout[SIZE] {
-        result[OFFSET] = (8 * layout[SIZE]).saturating_sub(precision);
-        result[SIZE] = layout[SIZE].max(precision.div_ceil(8));
-    }
-    Some(result)
-}
-
-/// "s' = max(s, (o' + p)/8 rounded up). Refused if s' would pass 8."
-fn set_offset(layout: Words, offset: u32) -> Option<Words> {
-    let end = u64::from(offset) + u64::from(layout[PRECISION]);
-    let size = u64::from(layout[SIZE]).max(end.div_ceil(8));
-    if size > 8 {
-        return None;
-    }
-    let mut result = layout;
+    result[SIZE] = (layout[SIZE]..=8).find(|&size| end <= 8 * u64::from(size))?;
     result[OFFSET] = offset;
-    result[SIZE] = size as u32;
+    result[PRECISION] = precision;
     Some(result)
 }

@@ -17,9 +17,9 @@ class Setters(unittest.TestCase):
         layout = wide()
         layout.set_size(3)
         self.assertEqual((layout.size, layout.offset, layout.precision), (3, 8, 16))
-        layout.set_precision(20)
+        layout.set_field(4, 20)
         self.assertEqual((layout.size, layout.offset, layout.precision), (3, 4, 20))
-        layout.set_offset(20)
+        layout.set_field(offset=20, precision=20)
         self.assertEqual((layout.size, layout.offset, layout.precision), (5, 20, 20))
         layout.set_order(Order.BE)
         layout.set_pads(Pad.ONE, Pad.KEEP)
@@ -35,10 +35,18 @@ class Setters(unittest.TestCase):
             (wide(), "size", (-1,), "the size is -1 bytes: 1 to 8 are allowed"),
             (wide(), "size", ((1 << 32) + 1,), "the size is 4294967297 bytes: 1 to 8 are allowed"),
             (wide(), "order", (2,), "order is 2: Order.LE or Order.BE is allowed"),
-            (wide(), "precision", (0,), "the precision is 0 bits: 1 to 64 are allowed"),
-            (wide(), "precision", (65,), "the precision is 65 bits: 1 to 64 are allowed"),
-            (wide(), "offset", (49,), "offset 49 and precision 16 do not fit 8 bytes: keep the offset within 0 to 48"),
-            (wide(), "offset", (-1,), "offset -1 and precision 16 do not fit 8 bytes: keep the offset within 0 to 48"),
+            (wide(), "field", (0, 0), "the precision is 0 bits: 1 to 64 are allowed"),
+            (wide(), "field", (0, 65), "the precision is 65 bits: 1 to 64 are allowed"),
+            (wide(), "field", (49, 16), "offset 49 and precision 16 do not fit 8 bytes: keep the offset within 0 to 48"),
+            (wide(), "field", (-1, 20), "offset -1 and precision 20 do not fit 8 bytes: keep the offset within 0 to 44"),
+            (wide(), "field", ((1 << 32) - 1, 1), "offset 4294967295 and precision 1 do not fit 8 bytes: keep the offset within 0 to 63"),
+            (wide(), "field", (1 << 32, 1), "offset 4294967296 and precision 1 do not fit 8 bytes: keep the offset within 0 to 63"),
+            (
+                wide(offset=17),
+                "field",
+                (0, 8),
+                "the layout's offset 17 and precision 16 need 33 bits, and its 4 bytes have 32",
+            ),
             (wide(), "pads", (0, 3), "msb is 3: Pad.ZERO or Pad.ONE or Pad.KEEP is allowed"),
             (wide(), "pads", (3, 0), "lsb is 3: Pad.ZERO or Pad.ONE or Pad.KEEP is allowed"),
             (wide(), "sign", (2,), "sign is 2: Sign.UNSIGNED or Sign.SIGNED is allowed"),

@@ -45,7 +45,7 @@ def refuse(number):
     elif number == Number.STOP:
         yirvagul.convert_copying(RIG, CUSTOMER, 2, Handling.STOP, LOG, out)
     elif number == Number.RANGE:
-        Layout(Class.INT, 2, Order.BE, 4, 12, Pad.ZERO, Pad.ZERO, Sign.UNSIGNED).set_offset(53)
+        Layout(Class.INT, 2, Order.BE, 4, 12, Pad.ZERO, Pad.ZERO, Sign.UNSIGNED).set_field(53, 12)
     elif number == Number.CHANNEL:
         Report(WIDE)
     elif number == Number.FULL:

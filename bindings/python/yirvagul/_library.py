@@ -72,8 +72,7 @@ record_size = _declare("record_size", [*_bytes, *_end])
 _one = [LayoutWords, ctypes.c_uint32]
 set_size = _declare("set_size", _one)
 set_order = _declare("set_order", _one)
-set_precision = _declare("set_precision", _one)
-set_offset = _declare("set_offset", _one)
+set_field = _declare("set_field", [*_one, ctypes.c_uint32])
 set_pads = _declare("set_pads", [*_one, ctypes.c_uint32])
 set_sign = _declare("set_sign", _one)
 

@@ -65,13 +65,10 @@ class Layout:
         """Another byte order."""
         self._edit(_library.set_order, order=order)
 
-    def set_precision(self, precision: int) -> None:
-        """1 to 64 bits. Where it no longer fits at its offset, the offset moves down and the size grows."""
-        self._edit(_library.set_precision, precision=precision)
-
-    def set_offset(self, offset: int) -> None:
-        """The size grows to hold the moved bits; refused if it would pass 8 bytes."""
-        self._edit(_library.set_offset, offset=offset)
+    def set_field(self, offset: int, precision: int) -> None:
+        """Exactly this offset, and this precision of 1 to 64 bits. Where they end past the size, it grows to the least that holds them; refused if it would
+        pass 8 bytes."""
+        self._edit(_library.set_field, offset=offset, precision=precision)
 
     def set_pads(self, lsb: Pad, msb: Pad) -> None:
         """The pads of the lower bits and of the higher ones."""
@@ -133,9 +130,9 @@ def _broken_by(layout: Layout, **values: int) -> Optional[str]:
         return f"the size is {values['size']} bytes: 1 to 8 are allowed"
     if not 1 <= values.get("precision", 1) <= 64:
         return f"the precision is {values['precision']} bits: 1 to 64 are allowed"
-    most = 64 - layout.precision
+    most = 64 - values.get("precision", layout.precision)
     if not 0 <= values.get("offset", 0) <= most:
-        return f"offset {values['offset']} and precision {layout.precision} do not fit 8 bytes: keep the offset within 0 to {most}"
+        return f"offset {values['offset']} and precision {values['precision']} do not fit 8 bytes: keep the offset within 0 to {most}"
     if "sign" in values and layout.class_ == Class.BITS:
         return "bits have no sign"
     return None

@@ -50,7 +50,7 @@ fn main() -> Result<(), Error> {
         msb: Pad::Zero,
         sign: Sign::Unsigned,
     };
-    pressure.set_precision(20)?;
+    pressure.set_field(4, 20)?;
     println!("{} bytes, offset {}", pressure.size, pressure.offset);
     Ok(())
 }

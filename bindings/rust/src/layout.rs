@@ -55,8 +55,8 @@ pub enum Sign {
 ///     msb: Pad::Zero,
 ///     sign: Sign::Unsigned,
 /// };
-/// pressure.set_precision(20)?;
-/// assert_eq!((pressure.size, pressure.offset), (3, 0));
+/// pressure.set_field(4, 20)?;
+/// assert_eq!((pressure.size, pressure.offset, pressure.precision), (3, 4, 20));
 /// assert_eq!(pressure.set_size(9), Err(Error::Range));
 /// # Ok::<(), Error>(())
 /// ```
@@ -125,14 +125,10 @@ impl Layout {
         self.edit(|w| raw::set_order(w, order as u32))
     }
 
-    /// Another precision, 1 to 64 bits. Where it no longer fits at its offset, the offset moves down and the size grows.
-    pub fn set_precision(&mut self, precision: u32) -> Result<(), Error> {
-        self.edit(|w| raw::set_precision(w, precision))
-    }
-
-    /// Another offset. The size grows to hold the moved bits; refused if it would pass 8.
-    pub fn set_offset(&mut self, offset: u32) -> Result<(), Error> {
-        self.edit(|w| raw::set_offset(w, offset))
+    /// Another field: exactly this offset, and this precision of 1 to 64 bits. Where they end past the size, it grows to the least that holds them; refused if
+    /// it would pass 8.
+    pub fn set_field(&mut self, offset: u32, precision: u32) -> Result<(), Error> {
+        self.edit(|w| raw::set_field(w, offset, precision))
     }
 
     /// Other pads, of the bits below the number and of those above it.

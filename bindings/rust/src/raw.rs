@@ -102,8 +102,7 @@ mod c {
         ) -> u32;
         pub fn yirvagul_set_size(layout: *mut u32, size: u32) -> u32;
         pub fn yirvagul_set_order(layout: *mut u32, order: u32) -> u32;
-        pub fn yirvagul_set_precision(layout: *mut u32, precision: u32) -> u32;
-        pub fn yirvagul_set_offset(layout: *mut u32, offset: u32) -> u32;
+        pub fn yirvagul_set_field(layout: *mut u32, offset: u32, precision: u32) -> u32;
         pub fn yirvagul_set_pads(layout: *mut u32, lsb: u32, msb: u32) -> u32;
         pub fn yirvagul_set_sign(layout: *mut u32, sign: u32) -> u32;
     }
@@ -304,12 +303,8 @@ pub fn set_order(layout: &mut Words, order: u32) -> u32 {
     unsafe { c::yirvagul_set_order(layout.as_mut_ptr(), order) }
 }
 
-pub fn set_precision(layout: &mut Words, precision: u32) -> u32 {
-    unsafe { c::yirvagul_set_precision(layout.as_mut_ptr(), precision) }
-}
-
-pub fn set_offset(layout: &mut Words, offset: u32) -> u32 {
-    unsafe { c::yirvagul_set_offset(layout.as_mut_ptr(), offset) }
+pub fn set_field(layout: &mut Words, offset: u32, precision: u32) -> u32 {
+    unsafe { c::yirvagul_set_field(layout.as_mut_ptr(), offset, precision) }
 }
 
 pub fn set_pads(layout: &mut Words, lsb: u32, msb: u32) -> u32 {

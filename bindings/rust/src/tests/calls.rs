@@ -215,10 +215,12 @@ fn setters_change_a_layout() {
     let mut l = WIDE;
     l.set_size(3).unwrap();
     assert_eq!((l.size, l.offset, l.precision), (3, 8, 16));
-    l.set_precision(20).unwrap();
+    l.set_field(4, 20).unwrap();
     assert_eq!((l.size, l.offset, l.precision), (3, 4, 20));
-    l.set_offset(20).unwrap();
+    l.set_field(20, 20).unwrap();
     assert_eq!((l.size, l.offset, l.precision), (5, 20, 20));
+    l.set_field(0, 8).unwrap();
+    assert_eq!((l.size, l.offset, l.precision), (5, 0, 8));
     l.set_order(Order::BE).unwrap();
     l.set_pads(Pad::One, Pad::Keep).unwrap();
     l.set_sign(Sign::Signed).unwrap();
@@ -230,15 +232,20 @@ fn setters_change_a_layout() {
 fn refused_setters_leave_a_layout() {
     let mut l = WIDE;
     assert_eq!(l.set_size(9), Err(Error::Range));
-    assert_eq!(l.set_precision(65), Err(Error::Range));
-    assert_eq!(l.set_offset(u32::MAX), Err(Error::Range));
+    assert_eq!(l.set_field(0, 0), Err(Error::Range));
+    assert_eq!(l.set_field(0, 65), Err(Error::Range));
+    assert_eq!(l.set_field(49, 16), Err(Error::Range));
+    assert_eq!(l.set_field(u32::MAX, 1), Err(Error::Range));
     assert_eq!(l, WIDE);
     l.class = Class::Bits;
     let bits = l;
     assert_eq!(l.set_sign(Sign::Signed), Err(Error::Range));
     assert_eq!(l, bits);
+    l.set_field(0, 40).unwrap();
+    assert_eq!((l.size, l.offset, l.precision), (5, 0, 40));
     l.offset = 17;
     assert_eq!(l.set_order(Order::BE), Err(Error::Range));
+    assert_eq!(l.set_field(0, 8), Err(Error::Range));
     assert_eq!(l.set_pads(Pad::One, Pad::One), Err(Error::Range));
     assert_eq!((Error::Range.number(), Error::Range.name()), (9, "RANGE"));
 }

@@ -42,8 +42,7 @@ unsafe extern "C" {
         table: *mut u32, table_len: usize, answer: *mut Answer) -> u32;
     fn yirvagul_set_size(layout: *mut Words, size: u32) -> u32;
     fn yirvagul_set_order(layout: *mut Words, order: u32) -> u32;
-    fn yirvagul_set_precision(layout: *mut Words, precision: u32) -> u32;
-    fn yirvagul_set_offset(layout: *mut Words, offset: u32) -> u32;
+    fn yirvagul_set_field(layout: *mut Words, offset: u32, precision: u32) -> u32;
     fn yirvagul_set_pads(layout: *mut Words, lsb: u32, msb: u32) -> u32;
     fn yirvagul_set_sign(layout: *mut Words, sign: u32) -> u32;
 }
@@ -176,8 +175,7 @@ pub fn set(random: &mut Random, layout: Words, setter: Setter) -> Result<(u32, W
         match setter {
             Setter::Size(size) => yirvagul_set_size(words, size),
             Setter::Order(order) => yirvagul_set_order(words, order),
-            Setter::Precision(precision) => yirvagul_set_precision(words, precision),
-            Setter::Offset(offset) => yirvagul_set_offset(words, offset),
+            Setter::Field(offset, precision) => yirvagul_set_field(words, offset, precision),
             Setter::Pads(lsb, msb) => yirvagul_set_pads(words, lsb, msb),
             Setter::Sign(sign) => yirvagul_set_sign(words, sign),
         }

@@ -8,6 +8,7 @@ mod convert;
 mod damage;
 mod derive;
 mod events;
+mod fields;
 mod generate;
 mod held;
 mod lent;

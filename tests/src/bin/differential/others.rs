@@ -3,6 +3,7 @@
 use crate::capi;
 use crate::convert;
 use crate::damage::damage;
+use crate::fields;
 use crate::generate::atomic;
 use crate::limits;
 use crate::lines;
@@ -91,6 +92,14 @@ pub fn setter_case(random: &mut Random, tally: &mut Tally) -> Result<(), String>
         if changed > 1 && name != "pads" {
             tally.saw("setter changed another word");
         }
+        if let Setter::Field(offset, precision) = setter {
+            if got == 0 {
+                fields::saw(tally, layout, seen, (offset, precision));
+                fields::laws(random, tally, layout, seen, (offset, precision))?;
+            } else if offset.checked_add(precision).is_none() {
+                tally.saw("field: an end past 2^32");
+            }
+        }
         layout = seen;
     }
     Ok(())
@@ -118,7 +127,7 @@ fn valid_layout(random: &mut Random) -> Words {
 
 /// A word near some bound, or near 2^32, or one that looks good in its low
 /// bits alone.
-fn odd_word(random: &mut Random, layout: Words) -> u32 {
+pub fn odd_word(random: &mut Random, layout: Words) -> u32 {
     let precision = layout[4];
     let words = [
         0,
@@ -161,8 +170,10 @@ fn edit(random: &mut Random, layout: Words) -> (Setter, &'static str) {
     match random.below(6) {
         0 => (Setter::Size(if odd { first } else { first % 10 }), "size"),
         1 => (Setter::Order(code), "order"),
-        2 => (Setter::Precision(first), "precision"),
-        3 => (Setter::Offset(first), "offset"),
+        2 | 3 => {
+            let (offset, precision) = fields::asked(random, layout, odd);
+            (Setter::Field(offset, precision), "field")
+        }
         4 => (
             Setter::Pads(code, if odd { first } else { first % 4 }),
             "pads",

@@ -1,6 +1,7 @@
 //! What was seen, and what must have been seen for the tests to mean
 //! something.
 
+use crate::fields;
 use crate::real_events;
 use crate::run::{FORMS, Form};
 use std::collections::BTreeMap;
@@ -135,6 +136,7 @@ impl Tally {
             &NEEDED[..],
             &real_events::NEEDED,
             &real_events::REPORT_NEEDED,
+            &fields::NEEDED,
         ];
         let all = lists.iter().flat_map(|list| list.iter());
         let mut needed: Vec<String> = all.map(|what| what.to_string()).collect();
@@ -161,7 +163,7 @@ fn answers() -> Vec<String> {
     add("report", &[0, 2, 3, 4, 5, 6, 7, 10, 11]);
     add("leaf list", &[0, 2, 3, 7]);
     add("record size", &[0, 2, 3]);
-    for setter in ["size", "order", "precision", "offset", "pads", "sign"] {
+    for setter in ["size", "field", "order", "pads", "sign"] {
         add(setter, &[0, 9]);
     }
     answers
