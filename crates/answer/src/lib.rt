@@ -1,6 +1,6 @@
 // What a call answers: done, or the refusal by the first check that fails. Numbers and fields are those of document 01's table, and of document 02 from 10 on.
 ghost use mathlib.Core.Path.{_≡_};
-ghost use Rattle.answer.specs.Answer.{numberOf, valuesOf};
+ghost use Rattle.answer.specs.Answer.{numberOf, givenSign, givenMagnitude, valuesOf};
 
 pub enum Answer {
     // The exception count; of a call that writes text, that text's length in bytes.
@@ -13,14 +13,28 @@ pub enum Answer {
     Path,
     Count,
     Room,
-    // The record, the destination byte in it, and the kind of the exception.
-    Stop(u32, u32, u32),
+    // The record, the destination byte in it, the kind of the exception, and the number that raised it.
+    Stop(u32, u32, u32, Given),
     Range,
     // An int leaf of the reader's sheet is wider than a report takes.
     Channel,
     // The report takes no more records, or holds what no report leaves.
     Full,
 }
+
+// The number that was given to the step that fits a number into its destination: a whole number by its sign, true where it is negative, and its magnitude, or
+// the 64 bits of a real.
+pub enum Given {
+    Whole(bool, u64),
+    Real(u64),
+}
+
+// Which of them it is, as a number.
+pub const PLUS: u32 = 0;
+
+pub const MINUS: u32 = 1;
+
+pub const REAL: u32 = 2;
 
 // The fields that document 01's table names beside an answer's number; a field that the table does not name is 0.
 pub struct Values {
@@ -29,6 +43,9 @@ pub struct Values {
     pub record: u32,
     pub at: u32,
     pub kind: u32,
+    // Of the number that raised an exception: which it is, and its magnitude or bits.
+    pub given: u32,
+    pub magnitude: u64,
 }
 
 // The number of an answer.
@@ -44,7 +61,7 @@ pub fn number_of(a: Answer) -> u32
         Answer::Path => 5,
         Answer::Count => 6,
         Answer::Room => 7,
-        Answer::Stop(_, _, _) => 8,
+        Answer::Stop(_, _, _, _) => 8,
         Answer::Range => 9,
         Answer::Channel => 10,
         Answer::Full => 11,
@@ -61,6 +78,8 @@ fn bare() -> Values
         record: 0,
         at: 0,
         kind: 0,
+        given: 0,
+        magnitude: 0,
     }
 }
 
@@ -74,6 +93,49 @@ fn at_line(line: u32) -> Values
         record: 0,
         at: 0,
         kind: 0,
+        given: 0,
+        magnitude: 0,
+    }
+}
+
+// Which number was given.
+fn given_sign(given: Given) -> u32
+    ensures { λ r. ⌜ r ≡ givenSign given ⌝ }
+{
+    match given {
+        Given::Whole(negative, _) => {
+            if negative {
+                return MINUS;
+            }
+            PLUS
+        }
+        Given::Real(_) => REAL,
+    }
+}
+
+// The given number's magnitude, or a real's bits.
+fn given_magnitude(given: Given) -> u64
+    ensures { λ r. ⌜ r ≡ givenMagnitude given ⌝ }
+{
+    match given {
+        Given::Whole(_, magnitude) => magnitude,
+        Given::Real(bits) => bits,
+    }
+}
+
+// The place of an exception, its kind, and the number that raised it.
+fn stopped(record: u32, at: u32, kind: u32, given: Given) -> Values
+    ensures { λ r. ⌜ r ≡ valuesOf (Answer.Stop «record» at kind given) ⌝ }
+{
+    let magnitude = given_magnitude(given);
+    Values {
+        count: 0,
+        line: 0,
+        record,
+        at,
+        kind,
+        given: given_sign(given),
+        magnitude,
     }
 }
 
@@ -88,16 +150,12 @@ pub fn values_of(a: Answer) -> Values
             record: 0,
             at: 0,
             kind: 0,
+            given: 0,
+            magnitude: 0,
         },
         Answer::Source(line) => at_line(line),
         Answer::Destination(line) => at_line(line),
-        Answer::Stop(record, at, kind) => Values {
-            count: 0,
-            line: 0,
-            record,
-            at,
-            kind,
-        },
+        Answer::Stop(record, at, kind, given) => stopped(record, at, kind, given),
         Answer::Handling => bare(),
         Answer::Table => bare(),
         Answer::Path => bare(),

@@ -5,10 +5,11 @@ use Prim.Native.Nat.{ℕ}
 use Rattle.answer.specs.declared.Answer.{Answer}
 use Rattle.answer.specs.Answer.{numberOf, valuesOf}
 
--- its number, every field beside it, and two words for later, which are 0
+-- its number, and every field beside it
 abbrev pub wordsOf : Answer → List ℕ
 wordsOf a =
-    numberOf a ∷ valuesOf a .count ∷ valuesOf a .line ∷ valuesOf a .«record» ∷ valuesOf a .at ∷ valuesOf a .kind ∷ 0 ∷ 0 ∷ []
+    numberOf a ∷ valuesOf a .count ∷ valuesOf a .line ∷ valuesOf a .«record» ∷ valuesOf a .at ∷ valuesOf a .kind
+    ∷ valuesOf a .given ∷ valuesOf a .magnitude ∷ []
 
 -- an answer given to C: the returned number r, and the words
 pub record Gives (a : Answer) (r : ℕ) (words : List ℕ) : Type 0 where

@@ -4,9 +4,6 @@ use answer::Answer;
 use answer::number_of;
 use answer::values_of;
 
-// Two words that no answer has a field for yet.
-const LATER: u64 = 0;
-
 // Writes an answer's words and gives its number.
 pub fn give(a: Answer, words: &mut [u64; 8]) -> u32
     ensures { λ r. ⌜ Gives a r (now (words .exit)) ⌝ }
@@ -20,8 +17,8 @@ pub fn give(a: Answer, words: &mut [u64; 8]) -> u32
         v.record as u64,
         v.at as u64,
         v.kind as u64,
-        LATER,
-        LATER,
+        v.given as u64,
+        v.magnitude,
     ];
     number
 }

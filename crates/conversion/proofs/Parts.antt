@@ -11,6 +11,7 @@ use borrow.Author.Tests.{le-leb, lt-leb, leb-true, leb-false}
 use lib.Dec.{leb}
 use lib.ListN.{length}
 use Rattle.answer.specs.declared.Answer.{Answer}
+use Rattle.answer.specs.declared.Given.{Given}
 use Rattle.answer.specs.declared.Answer.the-variants as answer
 use Rattle.datatype.specs.Datatype.{Datatype, size}
 use Rattle.datatype.specs.Symbols.{onSome}
@@ -19,7 +20,7 @@ use Rattle.datatype.specs.WellFormed.{WellFormed}
 use Rattle.datatype.proofs.Matches.{size-most}
 use Rattle.sheet.specs.Sheet.{sheetOf}
 use Rattle.sheet.specs.Sheet.Sheet.{ofType, faultyAt}
-use Rattle.records.specs.Record.{reading, kindAt, firstRaising}
+use Rattle.records.specs.Record.{reading, kindAt, givenAt, firstRaising}
 use Rattle.records.specs.Records.{recordAt, readings, exceptions}
 use Rattle.records.specs.Plan.{planOf, Raised, firstBy}
 use Rattle.records.specs.Plan.Raised.{nowhere, at}
@@ -51,7 +52,7 @@ module _ (form : Form) (n : ℕ) (source background : List ℕ) (S D : Datatype)
 
   -- the first exception by the plan is the one that STOP names
   said : Stop → Answer
-  said (At i b kind) = answer.Stop i b kind
+  said (At i b kind given) = answer.Stop i b kind given
   said Nowhere = answer.Done 0
 
   same-stop : (i k : ℕ) → stopFrom S D (readings S D source) i k ≡ said (stopBy (planOf S D) (size S) source i k)
@@ -61,8 +62,8 @@ module _ (form : Form) (n : ℕ) (source background : List ℕ) (S D : Datatype)
       rw (plan-first S D (recordAt (size S) i source), ← (add-one i)) (go (firstRaising S D (reading S D (recordAt (size S) i source)) 0 (size D)) (same-stop (i + 1) k))
     where
       go : (o : Option ℕ) → stopFrom S D (readings S D source) (i + 1) k ≡ said (stopBy (planOf S D) (size S) source (i + 1) k)
-          → onSome (λ b. answer.Stop i b (kindAt S D (reading S D (recordAt (size S) i source)) b)) (stopFrom S D (readings S D source) (i + 1) k) o
-          ≡ said (stops.orStop i (onSome (λ b. at b (kindAt S D (reading S D (recordAt (size S) i source)) b)) nowhere o) (stopBy (planOf S D) (size S) source (i + 1) k))
+          → onSome (λ b. answer.Stop i b (kindAt S D (reading S D (recordAt (size S) i source)) b) (givenAt S D (reading S D (recordAt (size S) i source)) b)) (stopFrom S D (readings S D source) (i + 1) k) o
+          ≡ said (stops.orStop i (onSome (λ b. at b (kindAt S D (reading S D (recordAt (size S) i source)) b) (givenAt S D (reading S D (recordAt (size S) i source)) b)) nowhere o) (stopBy (planOf S D) (size S) source (i + 1) k))
       go none e = e
       go (some b) e = refl
 
@@ -74,7 +75,8 @@ module _ (form : Form) (n : ℕ) (source background : List ℕ) (S D : Datatype)
     left-by : Answer → List ℕ
     left-by a = ifDone a (result form S D n source background) (target form source background)
 
-    pub stops-at : {i b kind : ℕ} → stop ≡ At i b kind → Leaves form h n source background (passed S D) (answer.Stop i b kind) (target form source background)
+    pub stops-at : {i b kind : ℕ} {given : Given} → stop ≡ At i b kind given
+        → Leaves form h n source background (passed S D) (answer.Stop i b kind given) (target form source background)
     unfolding said left-by
     stops-at e = record { answers = sym (handled-as ∙ ap said e); leaves = sym (ap left-by (handled-as ∙ ap said e)) }
 

@@ -43,7 +43,7 @@ module _ (t : List ℕ) where
   handled-clears : (h : ℕ) (S D : Datatype) (n : ℕ) (source : List ℕ) → tableAfter (handled h S D n (readings S D source)) t ≡ cleared t
   handled-clears h S D n source =
       let a : Answer = handled h S D n (readings S D source) in
-      ⊎-elim (λ e. ap (λ (x : Answer). tableAfter x t) (done-is a e)) (λ e. ap (λ (x : Answer). tableAfter x t) (stop-is a e))
+      ⊎-elim (λ e. ap (λ (x : Answer). tableAfter x t) (done-is a e)) (λ e. ap (λ (x : Answer). tableAfter x t) (stop-is a e .1))
       (handled-number S D h n (readings S D source))
 
   typed-clears : (form : Form) (h n : ℕ) (source : List ℕ) (x y : ℕ) (S D : Datatype) → tableAfter (answered h n source (typeChecks form n x y S D)) t ≡ cleared t

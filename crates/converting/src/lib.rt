@@ -143,7 +143,7 @@ pub fn convert_planned(
         destination_half,
         words,
     ) {
-        Stop::At(i, b, kind) => Answer::Stop(i, b, kind),
+        Stop::At(i, b, kind, given) => Answer::Stop(i, b, kind, given),
         Stop::Nowhere => Answer::Done(convert_records(
             in_place,
             out,

@@ -17,7 +17,7 @@ use Rattle.bits.proofs.Eight.{Bytes, le-window, be-window, place-bound}
 use Rattle.layout.specs.declared.Layout.{Layout}
 use Rattle.layout.specs.Layout.{Valid}
 use Rattle.number.specs.declared.Fitted.{Fitted}
-use Rattle.number.specs.Number.{valued, numberAt, fittedTo, fitted}
+use Rattle.number.specs.Number.{valued, numberAt, numberGiven, fittedTo, fitted}
 use Rattle.number.specs.Place.{rawAt, filled, stored}
 use Rattle.number.proofs.Range.{signed-inside, unsigned-inside}
 use Rattle.number.proofs.Widen.{widen-lt, widen-signed}
@@ -36,7 +36,7 @@ abbrev pub carried : Bool → ℕ → ℕ → ℕ → ℕ
 carried s p q raw = raw + carryOf s p q * (raw / 2 ^ (p - 1))
 
 pub carries : (s t : Bool) (p q raw : ℕ) → inside s t p q ≡ true → 1 ≤ p → raw < 2 ^ p
-    → (_≡_ {A = Fitted} (record { raw = carried s p q raw; kind = 0 }) (fittedTo t q (valued s p raw))) × (carried s p q raw < 2 ^ q)
+    → (_≡_ {A = Fitted} (record { raw = carried s p q raw; kind = 0; given = numberGiven (valued s p raw) }) (fittedTo t q (valued s p raw))) × (carried s p q raw < 2 ^ q)
 carries false false p q raw h some small =
     let k : 2 ^ p ≤ 2 ^ q = pow-mono (leb-true p q h) in
     let e : carried false p q raw ≡ raw = omega arith in
@@ -77,7 +77,8 @@ module _ (l m : Layout) (is : easy l m ≡ true) where
 
   -- it raises nothing, and its bits are the carried ones
   pub number : Valid l → (raw : ℕ) → raw < 2 ^ l .precision
-      → (_≡_ {A = Fitted} (record { raw = carried (l .signed) (l .precision) (m .precision) raw; kind = 0 }) (fitted m (valued (l .signed) (l .precision) raw)))
+      → (_≡_ {A = Fitted} (record { raw = carried (l .signed) (l .precision) (m .precision) raw; kind = 0; given = numberGiven (valued (l .signed) (l .precision) raw) })
+      (fitted m (valued (l .signed) (l .precision) raw)))
       × (carried (l .signed) (l .precision) (m .precision) raw < 2 ^ (8 * m .size .0))
   number v raw small =
       let c = carries (l .signed) (m .signed) (l .precision) (m .precision) raw (tests .2) (v .some) small in

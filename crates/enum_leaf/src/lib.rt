@@ -22,12 +22,12 @@ use entry_code::route_in;
 use entry_code::shift_in;
 use entry_code::size_in;
 use layout::Layout;
-use number::Fitted;
 use number::NO_SYMBOL;
 use number::sign::number_of;
 use number::sign::split;
 use placing::raw_at;
 use placing::store;
+use plans::Coded;
 use row_codes::code_bits;
 use row_codes::looked_code;
 use row_codes::span_code;
@@ -101,9 +101,9 @@ fn enum_bits(
     words: &[u32],
     place: usize,
     precision: u32,
-) -> Fitted
+) -> Coded
     requires { ⌜ EnumReady (length (now src)) «source_byte» «source_type» «destination_type» (now «source_half») (now «destination_half») (now words) place × (precision ≡ layoutAt (now «destination_half») «destination_type» .precision) ⌝ }
-    ensures { λ r. ⌜ ((p : Pair «source_type» «destination_type» (now («source_half» .entry)) (now («destination_half» .entry)) (now (words .entry)) place) → r ≡ pairBecomes p «source_byte» (now (src .entry))) × (r .raw < 2 ^ layoutAt (now («destination_half» .entry)) «destination_type» .precision) ⌝ }
+    ensures { λ r. ⌜ ((p : Pair «source_type» «destination_type» (now («source_half» .entry)) (now («destination_half» .entry)) (now (words .entry)) place) → (r .raw ≡ pairBecomes p «source_byte» (now (src .entry)) .raw) × (r .kind ≡ pairBecomes p «source_byte» (now (src .entry)) .kind)) × (r .raw < 2 ^ layoutAt (now («destination_half» .entry)) «destination_type» .precision) ⌝ }
 {
     code_bits(
         destination_half,

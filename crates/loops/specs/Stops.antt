@@ -10,7 +10,7 @@ use Rattle.loops.specs.declared.Stop.the-variants.{At, Nowhere}
 -- record i's first exception, if there is one, else what the later records say
 abbrev pub orStop : ℕ → Raised → Stop → Stop
 orStop i nowhere later = later
-orStop i (at b kind) later = At i b kind
+orStop i (at b kind given) later = At i b kind given
 
 -- over the k records of s bytes from record i on
 unfoldable pub stopBy : List Entry → ℕ → List ℕ → ℕ → ℕ → Stop

@@ -19,7 +19,7 @@ use Rattle.layout.specs.declared.Pad.the-variants.{Zero, One, Keep}
 use Rattle.layout.specs.Layout.{Valid}
 use Rattle.bits.specs.Container.{container, contained, field}
 use Rattle.number.specs.Place.{padded, filled, place, rawAt, stored}
-use Rattle.number.specs.Number.{valued, numberAt, fittedTo, fitted}
+use Rattle.number.specs.Number.{valued, numberAt, numberGiven, fittedTo, fitted}
 use Rattle.bits.proofs.Digits.{read-written, contained-length}
 use Rattle.number.proofs.Fields.{cat-lt}
 use Rattle.number.proofs.Range.{twice-half, valued-low, valued-high, unsigned-above, unsigned-inside, signed-above, signed-inside, signed-below, signed-negative}
@@ -99,7 +99,7 @@ fitted-lt true p (negsuc n) h =
     ⊎-elim (λ t. rw (signed-below p n t) (omega arith)) (λ t. rw (signed-negative p n t) (omega arith)) (over-or-inside (2 ^ (p - 1) - 1) n)
 
 -- p bits are those of the number that they stand for, and it fits
-pub bits-back : (s : Bool) (p r : ℕ) → 1 ≤ p → r < 2 ^ p → fittedTo s p (valued s p r) ≡ record { raw = r; kind = 0 }
+pub bits-back : (s : Bool) (p r : ℕ) → 1 ≤ p → r < 2 ^ p → fittedTo s p (valued s p r) ≡ record { raw = r; kind = 0; given = numberGiven (valued s p r) }
 bits-back false p r h l = unsigned-inside p r (omega arith)
 bits-back true p r h l =
     let w : 2 ^ p ≡ 2 ^ (p - 1) + 2 ^ (p - 1) = twice-half p h in
@@ -119,7 +119,7 @@ read-back l i s z v h e =
     ∙ fitted-back (l .signed) (l .precision) z (v .some) e
 
 -- a number that was read fits its own layout: its bits come back, and nothing is raised
-pub read-fits : (l : Layout) (i : ℕ) (s : List ℕ) → Valid l → fitted l (numberAt l i s) ≡ record { raw = rawAt l i s; kind = 0 }
+pub read-fits : (l : Layout) (i : ℕ) (s : List ℕ) → Valid l → fitted l (numberAt l i s) ≡ record { raw = rawAt l i s; kind = 0; given = numberGiven (numberAt l i s) }
 read-fits l i s v = bits-back (l .signed) (l .precision) (rawAt l i s) (v .some) (mod-lt _ (pow-pos (l .precision)))
 
 -- what a writer of several leaves needs: the length stays, and so do the bytes before and behind

@@ -6,7 +6,7 @@ use Prim.Native.Nat.{ℕ, suc, _+_, _-_, _*_, _/_, _^_, _≤_, _<_}
 use native.Mathlib.Nat.{div-eq-of-lt, eq-zero-or-pos}
 use native.Mathlib.Omega.{arith}
 use lib.Pow.{pow-mono, pow-pos, high}
-use Rattle.number.specs.Number.{valued, fittedTo}
+use Rattle.number.specs.Number.{valued, numberGiven, fittedTo}
 use Rattle.number.proofs.Range.{twice-half, valued-low, valued-high, signed-inside, signed-negative}
 
 abbrev pub widen : ℕ → ℕ → ℕ → ℕ
@@ -34,7 +34,7 @@ module _ (p q r : ℕ) (some : 1 ≤ p) (more : p ≤ q) (small : r < 2 ^ p) whe
       let m : 2 ^ p ≤ 2 ^ q = pow-mono more in
       ⊎-elim (λ e. rw (high-case (omega arith)) (omega arith)) (λ l. rw (low-case (omega arith)) (omega arith)) (eq-zero-or-pos (2 ^ (p - 1) - r))
 
-  pub widen-signed : record { raw = widen p q r; kind = 0 } ≡ fittedTo true q (valued true p r)
+  pub widen-signed : record { raw = widen p q r; kind = 0; given = numberGiven (valued true p r) } ≡ fittedTo true q (valued true p r)
   widen-signed =
       let m : 2 ^ (p - 1) ≤ 2 ^ (q - 1) = pow-mono (omega arith) in
       let t = twice-half p some in

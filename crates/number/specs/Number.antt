@@ -6,6 +6,8 @@ use Prim.Native.Nat.{ℕ, suc, _-_, _^_}
 use lib.Dec.{ltb}
 use lib.IntN.{ℤ, pos, negsuc}
 use lib.Signed.{ltZ}
+use Rattle.answer.specs.declared.Given.{Given}
+use Rattle.answer.specs.declared.Given.the-variants.{Whole}
 use Rattle.layout.specs.declared.Layout.{Layout}
 use Rattle.number.specs.declared.Fitted.{Fitted}
 use Rattle.number.specs.Place.{rawAt}
@@ -34,12 +36,17 @@ abbrev pub bitsOf : ℕ → ℤ → ℕ
 bitsOf p (pos n) = n
 bitsOf p (negsuc n) = 2 ^ p - suc n
 
+-- document 02, 2026-05: "the number it was given as well, sign and magnitude"
+abbrev pub numberGiven : ℤ → Given
+numberGiven (pos n) = Whole false n
+numberGiven (negsuc n) = Whole true (suc n)
+
 -- "the number itself if in the destination's range. Above it: the largest, exception kind 1. Below it: the smallest, kind 2."
 abbrev pub fittedTo : Bool → ℕ → ℤ → Fitted
 fittedTo signed p z =
-    cond (ltZ (largest signed p) z) (record { raw = bitsOf p (largest signed p); kind = 1 })
-    (cond (ltZ z (smallest signed p)) (record { raw = bitsOf p (smallest signed p); kind = 2 })
-    (record { raw = bitsOf p z; kind = 0 }))
+    cond (ltZ (largest signed p) z) (record { raw = bitsOf p (largest signed p); kind = 1; given = numberGiven z })
+    (cond (ltZ z (smallest signed p)) (record { raw = bitsOf p (smallest signed p); kind = 2; given = numberGiven z })
+    (record { raw = bitsOf p z; kind = 0; given = numberGiven z }))
 
 abbrev pub fitted : Layout → ℤ → Fitted
 fitted l z = fittedTo (l .signed) (l .precision) z

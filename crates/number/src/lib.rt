@@ -2,6 +2,8 @@
 
 pub mod sign;
 
+use answer::Given;
+
 // A number from -2^63 to 2^64 - 1: an i64 where it was read from a signed place.
 pub enum Number {
     Signed(i64),
@@ -14,10 +16,11 @@ pub struct Parts {
     pub distance: u64,
 }
 
-// A number brought into a range: its significant bits, and the kind of exception.
+// A number brought into a range: its significant bits, the kind of exception, and the number that was given.
 pub struct Fitted {
     pub raw: u64,
     pub kind: u32,
+    pub given: Given,
 }
 
 // The kinds of exception.

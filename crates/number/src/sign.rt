@@ -3,10 +3,11 @@ ghost use mathlib.Core.Path.{_≡_};
 ghost use Prim.Native.Nat.{_^_, _≤_, _<_};
 ghost use mathlib.Core.Bool.{true};
 ghost use lib.IntN.{pos, negsuc};
-ghost use Rattle.number.specs.Number.{valued};
+ghost use Rattle.number.specs.Number.{valued, numberGiven};
 ghost use Rattle.number.specs.Parts.{meaning, signedBy};
 use crate::Number;
 use crate::Parts;
+use answer::Given;
 use bits::shift::ones;
 use bits::shift::pow2;
 
@@ -72,5 +73,24 @@ pub fn number_of(signed: bool, precision: u32, raw: u64) -> Number
         }
     } else {
         Number::Unsigned(raw)
+    }
+}
+
+// What was given, where it is a whole number: its sign and magnitude.
+pub fn given_signed(z: i64) -> Given
+    ensures { λ r. ⌜ r ≡ numberGiven z ⌝ }
+{
+    if z < 0 {
+        return Given::Whole(true, (!z as u64) + 1);
+    }
+    Given::Whole(false, z as u64)
+}
+
+pub fn given_number(z: Number) -> Given
+    ensures { λ r. ⌜ r ≡ numberGiven (meaning z) ⌝ }
+{
+    match z {
+        Number::Signed(z) => given_signed(z),
+        Number::Unsigned(n) => Given::Whole(false, n),
     }
 }

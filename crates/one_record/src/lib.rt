@@ -19,6 +19,7 @@ use entry_code::route_in;
 use enum_leaf::convert_enum;
 use enum_leaf::convert_enum_fast;
 use enum_leaf::enum_kind;
+use given_leaf::given_at;
 use number_leaf::convert_number;
 use number_leaf::number_kind;
 use plan_words::entry;
@@ -232,7 +233,7 @@ pub fn first_raising(
         let b = e.to as u32;
         let kind = entry_kind(src, e, i, source_half, destination_half, words);
         if kind != 0 {
-            return Raising::At(b, kind);
+            return Raising::At(b, kind, given_at(src, e.from, e.source, source_half));
         }
         i += 1;
     }

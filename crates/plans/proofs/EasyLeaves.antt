@@ -59,18 +59,18 @@ module _ {n m : ℕ} {e : PlanEntry} {i : ℕ} {ws wd words : List ℕ} (h : Ent
         let l : Layout = layoutAt ws (e .source) in
         let at = easy-here some low in
         ap (λ (f : Fitted). f .kind) (number l (layoutAt wd (e .destination)) (at .is) (at .valid) (rawAt l (e .from) src) (mod-lt _ (pow-pos (l .precision))) .0)
-        ∙ ap (λ (f : Fitted). f .kind) (number-becomes p (not-enum (omega arith)) (alike low) (e .from) src)
+        ∙ number-becomes p (not-enum (omega arith)) (alike low) (e .from) src .1
 
     pub easy-became : (dst out : List ℕ)
         → out ≡ stored (layoutAt wd (e .destination)) (e .to) (fitted (layoutAt wd (e .destination)) (numberAt (layoutAt ws (e .source)) (e .from) src) .raw) dst
         → Became (e .source) (e .destination) ws wd words (wordsPlace i) (e .from) (e .to) src dst out 0
     easy-became dst out g p =
-        (easy-kind p, g ∙ ap (λ (f : Fitted). stored (layoutAt wd (e .destination)) (e .to) (f .raw) dst) (number-becomes p (not-enum (omega arith)) (alike low) (e .from) src))
+        (easy-kind p, g ∙ ap (λ (raw : ℕ). stored (layoutAt wd (e .destination)) (e .to) raw dst) (number-becomes p (not-enum (omega arith)) (alike low) (e .from) src .0))
 
   -- any other number
   pub number-kind-is : o < 3 → (src : List ℕ) {kind : ℕ} → kind ≡ fitted (layoutAt wd (e .destination)) (numberAt (layoutAt ws (e .source)) (e .from) src) .kind
       → (p : Pair (e .source) (e .destination) ws wd words (wordsPlace i)) → kind ≡ pairBecomes p (e .from) src .kind
-  number-kind-is low src g p = g ∙ ap (λ (f : Fitted). f .kind) (number-becomes p (not-enum (omega arith)) (alike low) (e .from) src)
+  number-kind-is low src g p = g ∙ number-becomes p (not-enum (omega arith)) (alike low) (e .from) src .1
 
   pub number-became : o < 3 → (src dst out : List ℕ) {kind : ℕ}
       → (kind ≡ fitted (layoutAt wd (e .destination)) (numberAt (layoutAt ws (e .source)) (e .from) src) .kind)

@@ -1,19 +1,22 @@
 -- The entries that a plan's words stand for, one by one: what a loop over them needs. Assumes nothing.
-use mathlib.Core.Path.{_≡_, refl, ap, _∙_}
+use mathlib.Core.Path.{_≡_, refl, sym, ap, _∙_}
 use mathlib.Core.Logic.{⊎-elim}
 use mathlib.Core.List.{List, [], _∷_, _++_}
 use Prim.Native.Nat.{ℕ, zero, suc, _+_, _*_, _-_, _/_, _%_, _≤_, _<_}
 use native.Mathlib.Nat.{eq-or-lt-of-le, le-refl}
 use native.Mathlib.Omega.{arith}
 use lib.ListN.{length, getD}
+use Rattle.answer.specs.declared.Given.{Given}
 use Rattle.number.specs.Place.{stored}
 use Rattle.table.specs.Table.{layoutAt}
 use Rattle.table.specs.Words.{Reads}
 use Rattle.plans.specs.declared.PlanEntry.{PlanEntry}
 use Rattle.plans.specs.declared.Raising.the-variants.{At, Nowhere}
+use Rattle.records.specs.Leaf.{numberIn, givenOf}
+use Rattle.records.proofs.OneLeaf.{given-matched}
 use Rattle.records.specs.Record.{raises}
 use Rattle.records.specs.Plan.{Entry, becomes, written, raisedBy, orElse, firstBy, Sound, AllSound}
-use Rattle.plans.specs.PlanWords.{toByte, fromByte, sourceType, destinationType, entryAt, entriesFrom, entriesAt, wordsPlace, Pair, pairBecomes, Ready, entriesOf}
+use Rattle.plans.specs.PlanWords.{leafOfType, toByte, fromByte, sourceType, destinationType, entryAt, entriesFrom, entriesAt, wordsPlace, Pair, pairBecomes, Ready, entriesOf}
 use Rattle.plans.specs.PlanEntries.{wordsAt, raisingOf, EntryReady}
 use Rattle.plans.proofs.LeafSteps.{leaf-layout}
 
@@ -118,12 +121,15 @@ module _ (s d : ℕ) (plan : List ℕ) (n : ℕ) (ws wd words : List ℕ) (p : R
   pub first-start : firstBy (entriesOf p) src ≡ firstBy (entriesFrom plan ws (p .sourceText) wd (p .destinationText) 0 (n - 0)) src
   first-start = let e : n - 0 ≡ n = omega arith in rw e
 
+  -- entry i, and what its leaf was given
+  abbrev here : ℕ → Entry
+  here i = entryAt plan ws (p .sourceText) wd (p .destinationText) i
+
   first-here : (i kind : ℕ) {e : PlanEntry} → i < n → e ≡ wordsAt plan i → ((q : Pair (e .source) (e .destination) ws wd words (wordsPlace i)) → kind ≡ pairBecomes q (e .from) src .kind)
-      → firstBy (rest i) src ≡ orElse (e .to) kind (firstBy (rest (i + 1)) src)
+      → firstBy (rest i) src ≡ orElse (e .to) kind (becomes (here i) src .given) (firstBy (rest (i + 1)) src)
   unfolding firstBy pair
   first-here i kind {e} h q leaf =
-      let here : Entry = entryAt plan ws (p .sourceText) wd (p .destinationText) i in
-      let g : kind ≡ becomes here src .kind = (rw q at leaf) (pair s d plan n ws wd words p i h) in
+      let g : kind ≡ becomes (here i) src .kind = (rw q at leaf) (pair s d plan n ws wd words p i h) in
       rw (entries-next plan ws (p .sourceText) wd (p .destinationText) n i h, q, g)
 
   pub first-turn : (i kind : ℕ) {e : PlanEntry} → i < n → firstBy (entriesOf p) src ≡ firstBy (rest i) src → e ≡ wordsAt plan i
@@ -131,14 +137,20 @@ module _ (s d : ℕ) (plan : List ℕ) (n : ℕ) (ws wd words : List ℕ) (p : R
       → firstBy (entriesOf p) src ≡ firstBy (rest (i + 1)) src
   first-turn i kind {e} h first q leaf z = first ∙ first-here i kind h q leaf ∙ rw z
 
-  pub first-found : (i kind : ℕ) {e : PlanEntry} → i < n → firstBy (entriesOf p) src ≡ firstBy (rest i) src → e ≡ wordsAt plan i
+  pub first-found : (i kind : ℕ) {e : PlanEntry} {given : Given} → i < n → firstBy (entriesOf p) src ≡ firstBy (rest i) src → e ≡ wordsAt plan i
       → ((q : Pair (e .source) (e .destination) ws wd words (wordsPlace i)) → kind ≡ pairBecomes q (e .from) src .kind) → (kind ≡ 0 → ⊥)
-      → At (e .to) kind ≡ raisingOf (firstBy (entriesOf p) src)
-  first-found i kind {e} h first q leaf z = rw (first, first-here i kind h q leaf) (go kind z)
+      → ((ts : List ℕ) → given ≡ givenOf (leafOfType ws ts (e .source)) (numberIn (leafOfType ws ts (e .source)) (e .from) src))
+      → At (e .to) kind given ≡ raisingOf (firstBy (entriesOf p) src)
+  first-found i kind {e} {given} h first q leaf z named = rw (first, first-here i kind h q leaf) (go kind z)
     where
-      go : (k : ℕ) → (k ≡ 0 → ⊥) → At (e .to) k ≡ raisingOf (orElse (e .to) k (firstBy (rest (i + 1)) src))
+      same : given ≡ becomes (here i) src .given
+      same =
+          (rw q at named) (p .sourceText)
+          ∙ sym (given-matched (here i .source) (here i .destination) (numberIn (here i .source) (here i .from) src))
+
+      go : (k : ℕ) → (k ≡ 0 → ⊥) → At (e .to) k given ≡ raisingOf (orElse (e .to) k (becomes (here i) src .given) (firstBy (rest (i + 1)) src))
       go zero f = absurd (f refl)
-      go (suc k) f = refl
+      go (suc k) f = rw same
 
   pub first-end : (i : ℕ) → n ≤ i → firstBy (entriesOf p) src ≡ firstBy (rest i) src → Nowhere ≡ raisingOf (firstBy (entriesOf p) src)
   unfolding firstBy

@@ -10,7 +10,6 @@ use Rattle.bits.specs.Container.{container, contained, field}
 use Rattle.bits.proofs.Eight.{Bytes}
 use Rattle.layout.specs.declared.Layout.{Layout}
 use Rattle.layout.specs.Layout.{Valid}
-use Rattle.number.specs.declared.Fitted.{Fitted}
 use Rattle.number.specs.Place.{rawAt, stored}
 use Rattle.table.specs.Table.{orderOf, layoutAt}
 use Rattle.table.specs.Words.{Reads}
@@ -18,6 +17,7 @@ use Rattle.table.specs.Records.{orderCode}
 use Rattle.entry_code.specs.Code.{routeIn, shiftIn, precisionIn, sizeIn, orderIn, bitsIn}
 use Rattle.easy.proofs.Easy.{stored-as, window-is, shift-small, order-back}
 use Rattle.plans.specs.PlanWords.{spanCode, EnumAt, Pair, pairBecomes}
+use Rattle.plans.specs.declared.Coded.{Coded}
 use Rattle.plans.specs.LeafSteps.{codeBits, EnumReady, EnumHere}
 use Rattle.plans.proofs.LeafSteps.{spanned, enum-becomes, leaf-stored}
 
@@ -61,7 +61,7 @@ module _ (src dst : List ℕ) (b a s d : ℕ) (ws wd words : List ℕ) (k : ℕ)
   raw-low : raw < 2 ^ layoutAt ws s .precision
   raw-low = rw (← (here .precision), ← (rx .is), ← ep) low
 
-  pub fast-done : {code q z r : ℕ} {order : Order} {f : Fitted} {out : List ℕ} → code ≡ spanCode words k raw → q ≡ bitsIn x → f ≡ codeBits wd q code → Bytes dst → z ≡ sizeIn x → r ≡ orderIn x → order ≡ orderOf r
+  pub fast-done : {code q z r : ℕ} {order : Order} {f : Coded} {out : List ℕ} → code ≡ spanCode words k raw → q ≡ bitsIn x → f ≡ codeBits wd q code → Bytes dst → z ≡ sizeIn x → r ≡ orderIn x → order ≡ orderOf r
       → out ≡ paste dst b (contained order z (f .raw)) z
       → (p : Pair s d ws wd words k) → (f .kind ≡ pairBecomes p a src .kind) × (out ≡ stored (layoutAt wd d) b (pairBecomes p a src .raw) dst)
   fast-done {f = f} {out = out} hc eb hf hd ez er ew ho =

@@ -18,7 +18,9 @@ use Rattle.layout.specs.Layout.{Valid}
 use Rattle.number.specs.declared.Number.{Number}
 use Rattle.number.specs.declared.Parts.{Parts}
 use Rattle.number.specs.declared.Fitted.{Fitted}
-use Rattle.number.specs.Number.{valued, numberAt, bitsOf, largest, smallest, fitted}
+use Rattle.answer.specs.declared.Given.{Given}
+use Rattle.answer.specs.declared.Given.the-variants.{Real}
+use Rattle.number.specs.Number.{valued, numberAt, bitsOf, largest, smallest, numberGiven, fitted}
 use Rattle.number.specs.Place.{rawAt, stored}
 use Rattle.number.specs.Parts.{meaning, signedBy}
 use Rattle.number.proofs.RoundTrip.{bits-back}
@@ -35,9 +37,10 @@ use Rattle.table.specs.Words.{Reads}
 use Rattle.table.specs.Rows.{rowNamed, rowNumbered, valueFound, nameFound}
 use Rattle.table.proofs.Lookups.{symbol-named, symbol-numbered}
 use Rattle.entry_code.specs.Code.{routeIn}
-use Rattle.records.specs.Leaf.{numberIn, symbols, untranslated, realBits, converted}
+use Rattle.records.specs.Leaf.{numberIn, symbols, translatedTo, untranslated, realBits, givenOf, converted}
 use Rattle.records.proofs.OneLeaf.{read-in-range, converted-lt, listed-in-range}
 use Rattle.plans.specs.PlanWords.{leafOfType, symbolRows, numberRow, rowCode, namedCode, translatedCode, isReal, oneReal, spanCode, rowAlike, Pair, pairBecomes}
+use Rattle.plans.specs.declared.Coded.{Coded}
 use Rattle.plans.specs.LeafSteps.{allOnes, codeBits, lookedCode, EnumReady, realBecomes, RealReady}
 use Rattle.plans.proofs.Names.{looked-named}
 
@@ -55,10 +58,10 @@ value-plain w j p rl rh ra e t =
     let f : flagOf (rowWord w j 2) ≡ false = rw (← (ra .is), ← e) t in
     rw (f, ← (rl .is), ← (rh .is))
 
-pub code-none : (w : List ℕ) (p : ℕ) {code : ℕ} {r : Fitted} → code ≡ 0 → r ≡ allOnes p → r ≡ codeBits w p code
+pub code-none : (w : List ℕ) (p : ℕ) {code : ℕ} {r : Coded} → code ≡ 0 → r ≡ allOnes p → r ≡ codeBits w p code
 code-none w p e h = rw e h
 
-pub code-some : (w : List ℕ) (p : ℕ) {code b : ℕ} → (code ≡ 0 → ⊥) → b ≡ bitsOf p (valueAt w (code - 1)) → _≡_ {A = Fitted} (record { raw = b; kind = 0 }) (codeBits w p code)
+pub code-some : (w : List ℕ) (p : ℕ) {code b : ℕ} → (code ≡ 0 → ⊥) → b ≡ bitsOf p (valueAt w (code - 1)) → _≡_ {A = Coded} (record { raw = b; kind = 0 }) (codeBits w p code)
 code-some w p {code} not h = let e : code ≡ suc (code - 1) = omega arith in rw e (rw h)
 
 -- ---- how many symbols a type has
@@ -106,6 +109,15 @@ leaf-plain w t k not e = rw (ne-eqb (classWord w k) 2 not, e)
 
 pub leaf-valid : (w t : List ℕ) (k : ℕ) → WellFormedLeaf (leafOfType w t k) → Valid (layoutAt w k)
 leaf-valid w t k f = subst Valid (leaf-layout w t k) (valid (leafOfType w t k) f)
+
+-- ---- whether a type is a real, by its class
+
+module _ (w : List ℕ) (k : ℕ) {class : ℕ} (rc : Reads (classWord w k) class) where
+  pub class-real : class ≡ 5 → isReal w k ≡ true
+  class-real e = eq-eqb _ 5 (sym (rc .is) ∙ e)
+
+  pub class-other : (class ≡ 5 → ⊥) → isReal w k ≡ false
+  class-other e = ne-eqb _ 5 (λ i. e (rc .is ∙ i))
 
 -- ---- a row by a span
 
@@ -161,20 +173,24 @@ looked-missing words ws wd z s d rf rr e q = rw (← (rf .is), ← (rr .0), ← 
 
 -- ---- a number in range keeps its bits
 
-pub inside-bits : (l : Layout) (z : ℤ) → fitted l z .kind ≡ 0 → record { raw = bitsOf (l .precision) z; kind = 0 } ≡ fitted l z
+pub inside-bits : (l : Layout) (z : ℤ) → fitted l z .kind ≡ 0 → record { raw = bitsOf (l .precision) z; kind = 0; given = numberGiven z } ≡ fitted l z
 inside-bits l z e = go (ltZ (largest (l .signed) (l .precision)) z) (ltZ z (smallest (l .signed) (l .precision))) e
   where
     go : (a b : Bool)
-        → cond {A = Fitted} a (record { raw = bitsOf (l .precision) (largest (l .signed) (l .precision)); kind = 1 })
-        (cond b (record { raw = bitsOf (l .precision) (smallest (l .signed) (l .precision)); kind = 2 }) (record { raw = bitsOf (l .precision) z; kind = 0 })) .kind ≡ 0
-        → _≡_ {A = Fitted} (record { raw = bitsOf (l .precision) z; kind = 0 })
-        (cond a (record { raw = bitsOf (l .precision) (largest (l .signed) (l .precision)); kind = 1 })
-        (cond b (record { raw = bitsOf (l .precision) (smallest (l .signed) (l .precision)); kind = 2 }) (record { raw = bitsOf (l .precision) z; kind = 0 })))
+        → cond {A = Fitted} a (record { raw = bitsOf (l .precision) (largest (l .signed) (l .precision)); kind = 1; given = numberGiven z })
+        (cond b (record { raw = bitsOf (l .precision) (smallest (l .signed) (l .precision)); kind = 2; given = numberGiven z }) (record { raw = bitsOf (l .precision) z; kind = 0; given = numberGiven z })) .kind ≡ 0
+        → _≡_ {A = Fitted} (record { raw = bitsOf (l .precision) z; kind = 0; given = numberGiven z })
+        (cond a (record { raw = bitsOf (l .precision) (largest (l .signed) (l .precision)); kind = 1; given = numberGiven z })
+        (cond b (record { raw = bitsOf (l .precision) (smallest (l .signed) (l .precision)); kind = 2; given = numberGiven z }) (record { raw = bitsOf (l .precision) z; kind = 0; given = numberGiven z })))
     go true b h = let no : _≡_ {A = ℕ} 1 0 = h in absurd (omega arith)
     go false true h = let no : _≡_ {A = ℕ} 2 0 = h in absurd (omega arith)
     go false false h = refl
 
 -- ---- an enum's number
+
+-- a row's bits and kind are those of a number brought into a range
+abbrev pub Agrees : Coded → Fitted → Type 0
+Agrees c f = (c .raw ≡ f .raw) × (c .kind ≡ f .kind)
 
 module _ (ws ts wd td : List ℕ) (s d : ℕ) (formed : WellFormedLeaf (leafOfType wd td d)) (enum : classWord wd d ≡ 2) where
   abbrev names : List Symbol
@@ -183,29 +199,30 @@ module _ (ws ts wd td : List ℕ) (s d : ℕ) (formed : WellFormedLeaf (leafOfTy
   listed : Symbols (layoutAt wd d) names
   listed = subst WellFormedLeaf (leaf-enum wd td d enum) formed .symbols
 
-  code-names : (x : List ℕ) (o : Found) → rowNamed wd td x (firstWord wd d) (rowsWord wd d) ≡ o
-      → codeBits wd (layoutAt wd d .precision) (rowCode o) ≡ onSome (fitted (layoutAt wd d)) (untranslated (layoutAt wd d)) (valueFound wd o)
-  code-names x (At i) q =
-      rw add-one (inside-bits (layoutAt wd d) (valueAt wd i)
-      (listed-in-range (layoutAt wd d) names x (valueAt wd i) listed (symbol-named wd td x (firstWord wd d) (rowsWord wd d) ∙ rw q)))
-  code-names x Missing q = refl
+  code-names : (g : Given) (x : List ℕ) (o : Found) → rowNamed wd td x (firstWord wd d) (rowsWord wd d) ≡ o
+      → Agrees (codeBits wd (layoutAt wd d .precision) (rowCode o)) (onSome (translatedTo (layoutAt wd d) g) (untranslated (layoutAt wd d) g) (valueFound wd o))
+  code-names g x (At i) q =
+      let e = inside-bits (layoutAt wd d) (valueAt wd i)
+      (listed-in-range (layoutAt wd d) names x (valueAt wd i) listed (symbol-named wd td x (firstWord wd d) (rowsWord wd d) ∙ rw q)) in
+      rw add-one (ap (λ (f : Fitted). f .raw) e, ap (λ (f : Fitted). f .kind) e)
+  code-names g x Missing q = (refl, refl)
 
-  found-names : (o : Found)
-      → codeBits wd (layoutAt wd d .precision) (namedCode ws ts wd td d o)
-      ≡ onSome (fitted (layoutAt wd d)) (untranslated (layoutAt wd d)) (onSome (λ x. numberOf x names) none (nameFound ws ts o))
-  found-names (At j) =
+  found-names : (g : Given) (o : Found)
+      → Agrees (codeBits wd (layoutAt wd d .precision) (namedCode ws ts wd td d o))
+      (onSome (translatedTo (layoutAt wd d) g) (untranslated (layoutAt wd d) g) (onSome (λ x. numberOf x names) none (nameFound ws ts o)))
+  found-names g (At j) =
       rw (symbol-named wd td (nameAt ws ts j) (firstWord wd d) (rowsWord wd d))
-      (code-names (nameAt ws ts j) (rowNamed wd td (nameAt ws ts j) (firstWord wd d) (rowsWord wd d)) refl)
-  found-names Missing = refl
+      (code-names g (nameAt ws ts j) (rowNamed wd td (nameAt ws ts j) (firstWord wd d) (rowsWord wd d)) refl)
+  found-names g Missing = (refl, refl)
 
   -- the row that the words lead to, as significant bits, is what the definition makes of the number
   pub enum-converted : (raw : ℕ)
-      → codeBits wd (layoutAt wd d .precision) (translatedCode ws ts wd td s d raw)
-      ≡ converted (leafOfType ws ts s) (leafOfType wd td d) (valued (layoutAt ws s .signed) (layoutAt ws s .precision) raw)
+      → Agrees (codeBits wd (layoutAt wd d .precision) (translatedCode ws ts wd td s d raw))
+      (converted (leafOfType ws ts s) (leafOfType wd td d) (valued (layoutAt ws s .signed) (layoutAt ws s .precision) raw))
   unfolding translatedCode numberRow
   enum-converted raw =
       let z : ℤ = valued (layoutAt ws s .signed) (layoutAt ws s .precision) raw in
-      rw (leaf-enum wd td d enum, leaf-symbols ws ts s, symbol-numbered ws z (firstWord ws s) ts (symbolRows ws s)) (found-names (rowNumbered ws z (firstWord ws s) (symbolRows ws s)))
+      rw (leaf-enum wd td d enum, leaf-symbols ws ts s, symbol-numbered ws z (firstWord ws s) ts (symbolRows ws s)) (found-names (givenOf (leafOfType ws ts s) z) (rowNumbered ws z (firstWord ws s) (symbolRows ws s)))
 
 -- ---- the row of an enum's number, by the route
 
@@ -234,13 +251,13 @@ code-here src a s d ws wd words k el er h p = h p ∙ rw (er, el)
 -- ---- a leaf's number
 
 -- what a leaf's function promises: the definition's bits and kind, whatever the texts are
-abbrev pub Becomes : List ℕ → ℕ → ℕ → ℕ → List ℕ → List ℕ → List ℕ → ℕ → Fitted → Type 0
-Becomes src a s d ws wd words k r = ((p : Pair s d ws wd words k) → r ≡ pairBecomes p a src) × (r .raw < 2 ^ layoutAt wd d .precision)
+abbrev pub Becomes : List ℕ → ℕ → ℕ → ℕ → List ℕ → List ℕ → List ℕ → ℕ → Coded → Type 0
+Becomes src a s d ws wd words k r = ((p : Pair s d ws wd words k) → Agrees r (pairBecomes p a src)) × (r .raw < 2 ^ layoutAt wd d .precision)
 
-becomes-lt : (src : List ℕ) (a s d : ℕ) (ws wd words : List ℕ) (k : ℕ) (r : Fitted) → Pair s d ws wd words k → ((p : Pair s d ws wd words k) → r ≡ pairBecomes p a src)
+becomes-lt : (src : List ℕ) (a s d : ℕ) (ws wd words : List ℕ) (k : ℕ) (r : Coded) → Pair s d ws wd words k → ((p : Pair s d ws wd words k) → Agrees r (pairBecomes p a src))
     → Becomes src a s d ws wd words k r
 becomes-lt src a s d ws wd words k r p h =
-    (h, rw (h p, ← (leaf-layout wd (p .destinationText) d)) (converted-lt (leafOfType ws (p .sourceText) s) (leafOfType wd (p .destinationText) d) (numberIn (leafOfType ws (p .sourceText) s) a src) (p .source) (p .destination) (read-in-range (leafOfType ws (p .sourceText) s) a src (p .source))))
+    (h, rw (h p .0, ← (leaf-layout wd (p .destinationText) d)) (converted-lt (leafOfType ws (p .sourceText) s) (leafOfType wd (p .destinationText) d) (numberIn (leafOfType ws (p .sourceText) s) a src) (p .source) (p .destination) (read-in-range (leafOfType ws (p .sourceText) s) a src (p .source))))
 
 module _ (n a s d : ℕ) (ws wd words : List ℕ) (k : ℕ) (ready : EnumReady n a s d ws wd words k) where
   pub enum-source : {l : Layout} → l ≡ layoutAt ws s → Valid l × (a + l .size .0 ≤ n)
@@ -251,21 +268,21 @@ module _ (n a s d : ℕ) (ws wd words : List ℕ) (k : ℕ) (ready : EnumReady n
 
 module _ (src : List ℕ) (a s d : ℕ) (ws wd words : List ℕ) (k : ℕ) (ready : EnumReady (length src) a s d ws wd words k)
     {code : ℕ} (is : (p : Pair s d ws wd words k) → code ≡ translatedCode ws (p .sourceText) wd (p .destinationText) s d (rawAt (layoutAt ws s) a src)) where
-  bits-become : (p : Pair s d ws wd words k) → codeBits wd (layoutAt wd d .precision) code ≡ pairBecomes p a src
+  bits-become : (p : Pair s d ws wd words k) → Agrees (codeBits wd (layoutAt wd d .precision) code) (pairBecomes p a src)
   bits-become p =
       rw (is p, leaf-layout ws (p .sourceText) s)
       (enum-converted ws (p .sourceText) wd (p .destinationText) s d (p .destination) (p .entry .enum (ready .enum)) (rawAt (layoutAt ws s) a src))
 
-  pub enum-becomes : {q : ℕ} {r : Fitted} → q ≡ layoutAt wd d .precision → r ≡ codeBits wd q code → Becomes src a s d ws wd words k r
-  enum-becomes {r = r} e h = becomes-lt src a s d ws wd words k r (ready .pair) (λ p. h ∙ rw e (bits-become p))
+  pub enum-becomes : {q : ℕ} {r : Coded} → q ≡ layoutAt wd d .precision → r ≡ codeBits wd q code → Becomes src a s d ws wd words k r
+  enum-becomes {r = r} e h = becomes-lt src a s d ws wd words k r (ready .pair) (λ p. rw (h, e) (bits-become p))
 
   pub enum-missing : code ≡ 0 → (p : Pair s d ws wd words k) → 3 ≡ pairBecomes p a src .kind
-  enum-missing e p = ap (λ (t : Fitted). t .kind) (rw e at (bits-become p))
+  enum-missing e p = (rw e at (bits-become p)) .1
 
   pub enum-found : (code ≡ 0 → ⊥) → (p : Pair s d ws wd words k) → 0 ≡ pairBecomes p a src .kind
   enum-found not p =
       let e : code ≡ suc (code - 1) = omega arith in
-      ap (λ (t : Fitted). t .kind) (rw e at (bits-become p))
+      (rw e at (bits-become p)) .1
 
 -- ---- a number that becomes a number, and a real that becomes a real
 
@@ -294,14 +311,38 @@ real-number : (l : Layout) (a : ℕ) (src : List ℕ) → l ≡ binary64 (l .ord
 real-number l a src f = ap (λ (m : Layout). valued (m .signed) (m .precision) (rawAt l a src)) f
 
 real-kept : (l k : Layout) (a : ℕ) (src : List ℕ) → l ≡ binary64 (l .order) → k ≡ binary64 (k .order)
-    → fitted k (numberAt l a src) ≡ record { raw = realBits (numberAt l a src); kind = 0 }
+    → (fitted k (numberAt l a src) .raw ≡ realBits (numberAt l a src)) × (fitted k (numberAt l a src) .kind ≡ 0)
 real-kept l k a src f g =
     let low : rawAt l a src < 2 ^ 64 = subst (λ (q : ℕ). rawAt l a src < 2 ^ q) (ap (λ (m : Layout). m .precision) f) (mod-lt _ (pow-pos (l .precision))) in
-    rw (real-number l a src f) (ap (λ (m : Layout). fitted m (pos (rawAt l a src))) g ∙ bits-back false 64 (rawAt l a src) (omega arith) low)
+    let e = ap (λ (m : Layout). fitted m (pos (rawAt l a src))) g ∙ bits-back false 64 (rawAt l a src) (omega arith) low in
+    rw (real-number l a src f) (ap (λ (t : Fitted). t .raw) e, ap (λ (t : Fitted). t .kind) e)
 
--- a leaf that is no enum, where both are reals or neither is
+-- ---- what was given
+
+plain-given : (ws ts : List ℕ) (s : ℕ) → isReal ws s ≡ false → (z : ℤ) → givenOf (leafOfType ws ts s) z ≡ numberGiven z
+unfolding leafOfType
+plain-given ws ts s e z = rw e (go (eqb (classWord ws s) 2))
+  where
+    go : (b : Bool) → givenOf (cond b (enumeration (layoutAt ws s) (symbolsAt ws ts (firstWord ws s) (rowsWord ws s))) (atomic (layoutAt ws s))) z ≡ numberGiven z
+    go true = refl
+    go false = refl
+
+module _ (src : List ℕ) (a s : ℕ) (ws : List ℕ) {l : Layout} {raw : ℕ} (el : l ≡ layoutAt ws s) (er : raw ≡ rawAt l a src) where
+  pub real-given : (tf : List ℕ) → isReal ws s ≡ true → WellFormedLeaf (leafOfType ws tf s)
+      → (ts : List ℕ) → Real raw ≡ givenOf (leafOfType ws ts s) (numberIn (leafOfType ws ts s) a src)
+  real-given tf e f ts =
+      rw (er, el, leaf-real ws ts s e) (ap (λ (z : ℤ). Real (realBits z)) (sym (real-number (layoutAt ws s) a src (real-formed ws tf s e f))))
+
+  pub whole-given : {g : Given} {z : ℤ} → isReal ws s ≡ false → z ≡ valued (l .signed) (l .precision) raw → g ≡ numberGiven z
+      → (ts : List ℕ) → g ≡ givenOf (leafOfType ws ts s) (numberIn (leafOfType ws ts s) a src)
+  whole-given {g} {z} e hz h ts =
+      let i : z ≡ numberAt (layoutAt ws s) a src = hz ∙ rw (er, el) in
+      rw (leaf-layout ws ts s) (h ∙ ap numberGiven i ∙ sym (plain-given ws ts s e (numberAt (layoutAt ws s) a src)))
+
+-- a leaf that is no enum, where both are reals or neither is: its bits and its kind
 pub number-becomes : {s d : ℕ} {ws wd words : List ℕ} {k : ℕ} (p : Pair s d ws wd words k) → (classWord wd d ≡ 2 → ⊥) → oneReal ws s wd d ≡ false → (a : ℕ) (src : List ℕ)
-    → fitted (layoutAt wd d) (numberAt (layoutAt ws s) a src) ≡ pairBecomes p a src
+    → (fitted (layoutAt wd d) (numberAt (layoutAt ws s) a src) .raw ≡ pairBecomes p a src .raw)
+    × (fitted (layoutAt wd d) (numberAt (layoutAt ws s) a src) .kind ≡ pairBecomes p a src .kind)
 unfolding oneReal
 number-becomes {s} {d} {ws} {wd} p not-enum alike a src = go (isReal wd d) refl
   where
@@ -314,13 +355,15 @@ number-becomes {s} {d} {ws} {wd} p not-enum alike a src = go (isReal wd d) refl
     same : isReal ws s ≡ isReal wd d
     same = one-real-cases (isReal ws s) (isReal wd d) alike
 
-    go : (b : Bool) → isReal wd d ≡ b → fitted (layoutAt wd d) (numberAt (layoutAt ws s) a src) ≡ pairBecomes p a src
+    go : (b : Bool) → isReal wd d ≡ b → (fitted (layoutAt wd d) (numberAt (layoutAt ws s) a src) .raw ≡ pairBecomes p a src .raw)
+        × (fitted (layoutAt wd d) (numberAt (layoutAt ws s) a src) .kind ≡ pairBecomes p a src .kind)
     go true e =
         let f : isReal ws s ≡ true = same ∙ e in
-        real-kept (layoutAt ws s) (layoutAt wd d) a src (real-formed ws ts s f (p .source)) (real-formed wd td d e (p .destination))
-        ∙ rw (leaf-real ws ts s f, leaf-real wd td d e)
+        rw (leaf-real ws ts s f, leaf-real wd td d e)
+        (real-kept (layoutAt ws s) (layoutAt wd d) a src (real-formed ws ts s f (p .source)) (real-formed wd td d e (p .destination)))
     go false e =
-        rw (leaf-plain wd td d not-enum e, leaf-layout ws ts s) (sym (plain-gives ws ts s (same ∙ e) (layoutAt wd d) (numberAt (layoutAt ws s) a src) .0))
+        let g = sym (plain-gives ws ts s (same ∙ e) (layoutAt wd d) (numberAt (layoutAt ws s) a src) .0) in
+        rw (leaf-plain wd td d not-enum e, leaf-layout ws ts s) (ap (λ (t : Fitted). t .raw) g, ap (λ (t : Fitted). t .kind) g)
 
 -- ---- between a real and another leaf
 
@@ -363,16 +406,18 @@ pub store-fits : (s d b n raw : ℕ) (ws wd words : List ℕ) (k : ℕ) {l : Lay
     → raw < 2 ^ layoutAt wd d .precision → Valid l × (b + l .size .0 ≤ n) × (raw < 2 ^ l .precision)
 store-fits s d b n raw ws wd words k p h e g = rw e (pair-valid p .1, h, g)
 
-pub leaf-stored : (src dst out : List ℕ) (a b s d : ℕ) (ws wd words : List ℕ) (k : ℕ) {l : Layout} {f : Fitted} → Becomes src a s d ws wd words k f → l ≡ layoutAt wd d
+pub leaf-stored : (src dst out : List ℕ) (a b s d : ℕ) (ws wd words : List ℕ) (k : ℕ) {l : Layout} {f : Coded} → Becomes src a s d ws wd words k f → l ≡ layoutAt wd d
     → out ≡ stored l b (f .raw) dst
     → (p : Pair s d ws wd words k) → (f .kind ≡ pairBecomes p a src .kind) × (out ≡ stored (layoutAt wd d) b (pairBecomes p a src .raw) dst)
-leaf-stored src dst out a b s d ws wd words k {l} {f} h e g p = (ap (λ (t : Fitted). t .kind) (h .0 p), g ∙ rw (e, h .0 p))
+leaf-stored src dst out a b s d ws wd words k {l} {f} h e g p = (h .0 p .1, g ∙ rw (e, h .0 p .0))
 
 -- what was promised of a number, as the pair's
 pub number-stored : (src dst out : List ℕ) (a b s d kind : ℕ) (ws wd words : List ℕ) (k : ℕ) → (classWord wd d ≡ 2 → ⊥) → oneReal ws s wd d ≡ false
     → (kind ≡ fitted (layoutAt wd d) (numberAt (layoutAt ws s) a src) .kind) × (out ≡ stored (layoutAt wd d) b (fitted (layoutAt wd d) (numberAt (layoutAt ws s) a src) .raw) dst)
     → (p : Pair s d ws wd words k) → (kind ≡ pairBecomes p a src .kind) × (out ≡ stored (layoutAt wd d) b (pairBecomes p a src .raw) dst)
-number-stored src dst out a b s d kind ws wd words k not-enum alike h p = rw (number-becomes p not-enum alike a src) at h
+number-stored src dst out a b s d kind ws wd words k not-enum alike h p =
+    let e = number-becomes p not-enum alike a src in
+    (h .0 ∙ e .1, h .1 ∙ ap (λ (raw : ℕ). stored (layoutAt wd d) b raw dst) (e .0))
 
 -- and of a number between a real and another leaf
 pub real-stored : (src dst out : List ℕ) (a b s d kind : ℕ) (ws wd words : List ℕ) (k : ℕ) → (classWord wd d ≡ 2 → ⊥) → oneReal ws s wd d ≡ true

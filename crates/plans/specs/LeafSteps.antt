@@ -13,13 +13,14 @@ use Rattle.reals.specs.Convert.{intToReal, realToInt}
 use Rattle.table.specs.Table.{firstWord, layoutAt, valueAt}
 use Rattle.table.specs.Rows.{rowNumbered}
 use Rattle.entry_code.specs.Code.{routeIn}
+use Rattle.plans.specs.declared.Coded.{Coded}
 use Rattle.plans.specs.PlanWords.{symbolRows, alikeCode, isReal, Pair}
 
-abbrev pub allOnes : ℕ → Fitted
+abbrev pub allOnes : ℕ → Coded
 allOnes p = record { raw = 2 ^ p - 1; kind = 3 }
 
 -- a row in one word, as p significant bits
-abbrev pub codeBits : List ℕ → ℕ → ℕ → Fitted
+abbrev pub codeBits : List ℕ → ℕ → ℕ → Coded
 codeBits w p zero = allOnes p
 codeBits w p (suc j) = record { raw = bitsOf p (valueAt w j); kind = 0 }
 

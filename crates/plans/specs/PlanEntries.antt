@@ -20,7 +20,7 @@ wordsAt plan i = record { to = toByte plan i; from = fromByte plan i; source = s
 
 abbrev pub raisingOf : Raised → Raising
 raisingOf nowhere = Nowhere
-raisingOf (at b kind) = At b kind
+raisingOf (at b kind given) = At b kind given
 
 -- entry i, which is e, for a source record of s bytes and a destination record of d bytes
 pub record EntryReady (s d : ℕ) (e : PlanEntry) (i : ℕ) (ws wd words : List ℕ) : Type 0 where

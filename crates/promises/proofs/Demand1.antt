@@ -12,6 +12,7 @@ use lib.ListN.{length}
 use borrow.Author.Tests.{leb-true, leb-false}
 use Rattle.answer.specs.declared.Answer.{Answer}
 use Rattle.answer.specs.declared.Answer.the-variants.{Done, Handling, Table, Source, Destination, Path, Count, Room, Stop}
+use Rattle.answer.specs.declared.Given as answer
 use Rattle.answer.specs.declared.Values.{Values}
 use Rattle.answer.specs.Answer.{numberOf, valuesOf}
 use Rattle.datatype.specs.Datatype.{Leaf, Datatype, size}
@@ -26,7 +27,7 @@ use Rattle.sheet.specs.Sheet.{sheetOf}
 use Rattle.sheet.specs.Sheet.Sheet.{ofType}
 use Rattle.sheet.proofs.FirstFault.{first-fault}
 use Rattle.sheet.proofs.ReadWellFormed.{read-well-formed}
-use Rattle.records.specs.Record.{kindAt, firstRaising}
+use Rattle.records.specs.Record.{kindAt, givenAt, firstRaising}
 use Rattle.records.specs.Records.{Readings, readings, recordAt, exceptions}
 use Rattle.records.specs.Matched.{MatchedLeaf}
 use Rattle.records.proofs.OneRecord.{none-raised, reading-at}
@@ -41,6 +42,7 @@ use Rattle.runs.proofs.Refusals.{not-faulty, of-types, by-types, same-types, on
 use Rattle.runs.proofs.Refusals.Right.{none-given, first-given}
 use Rattle.promises.specs.Promise.{answerNumber, answerFields, becomes}
 use Rattle.promises.specs.Demand1.{Exception, Row, number, Given, order, Fields, DoneFields, Demand1}
+use Rattle.promises.proofs.Stops.{kind-of, first-leaf, first-raises}
 use Rattle.promises.specs.Demand1.Row.{HANDLING, TABLE, SOURCE, DESTINATION, PATH, COUNT, ROOM, STOP}
 
 -- ---- handling
@@ -55,28 +57,10 @@ not-over-one (suc h) l n = n (inr (omega arith))
 
 -- ---- exceptions
 
--- a leaf that raises one is matched
-raising-matched : (S D : Datatype) (f : ℕ → Option ℤ) (b : ℕ) → 1 ≤ kindAt S D f b
-    → (a : ℕ) × (x : Leaf) × (y : Leaf) × (matchAt S D b ≡ matched a x y)
-unfolding kindAt
-raising-matched S D f b h = go (matchAt S D b) refl
-  where
-    go : (m : Match) → matchAt S D b ≡ m → (a : ℕ) × (x : Leaf) × (y : Leaf) × (matchAt S D b ≡ matched a x y)
-    go unmatched e = let z : kindAt S D f b ≡ 0 = rw e in absurd (omega (arith, z))
-    go (matched a x y) e = (a, x, y, e)
-
--- its kind is that of what its number becomes
-kind-of : {S D : Datatype} {n : ℕ} (m : MatchedLeaf S D n) (source : List ℕ) → kindAt S D (readings S D source (m .index)) (m .to) ≡ becomes m source .kind
-unfolding kindAt
-kind-of {S} {D} m source = rw (m .match, reading-at S D (recordAt (size S) (m .index) source) (m .to) (m .from) (m .source) (m .destination) (m .match))
-
 -- the first exception is one
-first-exists : (r : Run) (S D : Datatype) {i b k : ℕ} → FirstException S D (r .count) (readings S D (r .source)) i b k → Exception r S D
-first-exists r S D {i} {b} {k} e =
-    let m = raising-matched S D (readings S D (r .source) i) b (omega (arith, e .kind, e .raises)) in
-    let leaf : MatchedLeaf S D (r .count) =
-    record { index = i; from = m .0; to = b; source = m .1; destination = m .2; in-records = e .in-records; match = m .3 } in
-    record { leaf = leaf; raises = omega (arith, kind-of leaf (r .source), e .kind, e .raises) }
+first-exists : (r : Run) (S D : Datatype) {i b k : ℕ} {g : answer.Given} → FirstException S D (r .count) (readings S D (r .source)) i b k g → Exception r S D
+first-exists r S D e =
+    record { leaf = first-leaf S D (r .count) (r .source) e; raises = first-raises S D (r .count) (r .source) e }
 
 -- and where the count is 0 there is none
 none-exists : (r : Run) (S D : Datatype) → WellFormed D → exceptions S D (r .count) (readings S D (r .source)) ≡ 0 → ¬ (Exception r S D)
@@ -88,21 +72,22 @@ none-exists r S D g e x =
     omega (arith, x .raises, kind-of m (r .source), quiet)
 
 module _ {S D : Datatype} {n : ℕ} {fs : Readings} where
-  not-earlier : {i b k j c l : ℕ} → FirstException S D n fs i b k → FirstException S D n fs j c l → ¬ (i < j)
+  not-earlier : {i b k j c l : ℕ} {g h : answer.Given} → FirstException S D n fs i b k g → FirstException S D n fs j c l h → ¬ (i < j)
   not-earlier {i} {b} e f h =
       omega (arith, e .kind, e .raises, none-raised S D (fs i) (size D) (f .no-earlier-record i h) b (e .in-bytes))
 
-  not-lower : {i b k c l : ℕ} → FirstException S D n fs i b k → FirstException S D n fs i c l → ¬ (b < c)
+  not-lower : {i b k c l : ℕ} {g h : answer.Given} → FirstException S D n fs i b k g → FirstException S D n fs i c l h → ¬ (b < c)
   not-lower {b = b} e f h = omega (arith, e .kind, e .raises, f .no-lower-byte b h)
 
   -- there is one first exception
-  one-first : {i b k j c l : ℕ} → FirstException S D n fs i b k → FirstException S D n fs j c l → onlyPlace i b k ≡ onlyPlace j c l
-  one-first {i} {b} {k} {j} {c} {l} e f =
+  one-first : {i b k j c l : ℕ} {u v : answer.Given} → FirstException S D n fs i b k u → FirstException S D n fs j c l v → onlyPlace i b k u ≡ onlyPlace j c l v
+  one-first {i} {b} {k} {j} {c} {l} {u} {v} e f =
       let p : i ≡ j = omega (arith, not-earlier e f, not-earlier f e) in
-      let g : FirstException S D n fs i c l = rw p f in
+      let g : FirstException S D n fs i c l v = rw p f in
       let q : b ≡ c = omega (arith, not-lower e g, not-lower g e) in
       let t : k ≡ l = sym (e .kind) ∙ ap (kindAt S D (fs i)) q ∙ g .kind in
-      cc
+      let w : u ≡ v = sym (e .given) ∙ ap (givenAt S D (fs i)) q ∙ g .given in
+      rw (p, q, t, w)
 
 -- done under handling 1 is done with count 0
 stop-done : (S D : Datatype) (fs : Readings) (i k : ℕ) → numberOf (stopFrom S D fs i k) ≡ 0 → stopFrom S D fs i k ≡ Done 0
@@ -110,9 +95,9 @@ unfolding stopFrom
 stop-done S D fs i zero e = refl
 stop-done S D fs i (suc k) e = go (firstRaising S D (fs i) 0 (size D)) e (stop-done S D fs (suc i) k)
   where
-    go : (o : Option ℕ) → numberOf (onSome (λ b. Stop i b (kindAt S D (fs i) b)) (stopFrom S D fs (suc i) k) o) ≡ 0
+    go : (o : Option ℕ) → numberOf (onSome (λ b. Stop i b (kindAt S D (fs i) b) (givenAt S D (fs i) b)) (stopFrom S D fs (suc i) k) o) ≡ 0
         → (numberOf (stopFrom S D fs (suc i) k) ≡ 0 → stopFrom S D fs (suc i) k ≡ Done 0)
-        → onSome (λ b. Stop i b (kindAt S D (fs i) b)) (stopFrom S D fs (suc i) k) o ≡ Done 0
+        → onSome (λ b. Stop i b (kindAt S D (fs i) b) (givenAt S D (fs i) b)) (stopFrom S D fs (suc i) k) o ≡ Done 0
     go none f next = next f
     go (some b) f next = absurd (omega (arith, f))
 
@@ -136,10 +121,11 @@ module _ (r : Run) (S D : Datatype) (s : sheetOf (r .sourceSheet) ≡ ofType S) 
       (none-given tt z (of-types (r .sourceSheet) (r .destinationSheet) S D s d (ap valuesOf done ∙ ap onlyCount (sym quiet)))))
       (λ (z : numberOf a ≡ 8).
       let v : Values = valuesOf a in
-      let is : a ≡ Stop (v .«record») (v .at) (v .kind) = stop-is a z in
-      let f = handled-first S D (suc h) (r .count) fs (v .«record») (v .at) (v .kind) l is in
+      let g : answer.Given = stop-is a z .0 in
+      let is : a ≡ Stop (v .«record») (v .at) (v .kind) g = stop-is a z .1 in
+      let f = handled-first S D (suc h) (r .count) fs (v .«record») (v .at) (v .kind) g l is in
       first-given STOP (here (e ∙ f .0, of-types (r .sourceSheet) (r .destinationSheet) S D s d (first-exists r S D (f .1)))) z
-      (of-types (r .sourceSheet) (r .destinationSheet) S D s d (v .«record», v .at, v .kind, f .1, ap valuesOf is)))
+      (of-types (r .sourceSheet) (r .destinationSheet) S D s d (v .«record», v .at, v .kind, g, f .1, ap valuesOf is)))
       (handled-number S D (suc h) (r .count) fs)
 
   types-right : r .handling ≤ 1
@@ -228,7 +214,7 @@ module _ (r : Run) where
   one-fields PATH p q = p ∙ sym q
   one-fields COUNT p q = p ∙ sym q
   one-fields ROOM p q = p ∙ sym q
-  one-fields STOP p q = let t = same-types (r .sourceSheet) (r .destinationSheet) p q in t .2 .4 ∙ one-first (t .2 .3) (t .3 .3) ∙ sym (t .3 .4)
+  one-fields STOP p q = let t = same-types (r .sourceSheet) (r .destinationSheet) p q in t .2 .5 ∙ one-first (t .2 .4) (t .3 .4) ∙ sym (t .3 .5)
 
   one-done : {v w : Values} → DoneFields r v → DoneFields r w → v ≡ w
   one-done p q = let t = same-types (r .sourceSheet) (r .destinationSheet) p q in t .2 ∙ sym (t .3)

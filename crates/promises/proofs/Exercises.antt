@@ -1,5 +1,6 @@
 -- Document 01, "Exercises with answers": the marked ones that document 02 leaves, with the two of 2026-04; its leaf list, two more that tell the remaining
--- classroom errors apart, and numbers to and from the reals of document 02, 2026-03, as one statement over one list, which the checker computes. Assumes nothing.
+-- classroom errors apart, numbers to and from the reals of 2026-03, and what 2026-05 has STOP name, as one statement over one list, which the checker computes.
+-- Assumes nothing.
 use mathlib.Core.Path.{_≡_, refl}
 use mathlib.Core.Bool.{Bool, true, false}
 use mathlib.Core.List.{List, [], _∷_, _++_, map}
@@ -9,6 +10,7 @@ use lib.IntN.{ℤ, pos, negsuc}
 use lib.ListN.{replicate}
 use Rattle.answer.specs.declared.Answer.{Answer}
 use Rattle.answer.specs.declared.Answer.the-variants.{Done, Stop, Range}
+use Rattle.answer.specs.declared.Given.the-variants.{Whole, Real}
 use Rattle.answer.specs.Answer.{numberOf, valuesOf}
 use Rattle.bits.specs.declared.Order.{Order}
 use Rattle.bits.specs.declared.Order.the-variants.{LE, BE}
@@ -107,6 +109,9 @@ realBE = "real\t8\tBE\n"
 abbrev unsignedLong : String
 unsignedLong = "int\t8\tBE\t0\t64\tzero\tzero\tunsigned\n"
 
+abbrev signedLong : String
+signedLong = "int\t8\tBE\t0\t64\tzero\tzero\tsigned\n"
+
 rows : List Row
 rows =
     -- 4386 into 4 bytes, precision 16, offset 16
@@ -168,7 +173,20 @@ rows =
     -- a STOP in record 1 leaves record 0 as it was
     ∷ record {
       exercise = run (copyingRun (bytes unsignedByte) (bytes signedByte) 2 1 (0x01 ∷ 0xff ∷ []) (0x55 ∷ 0x66 ∷ []) words);
-      solution = answered (Stop 1 0 1) (0x55 ∷ 0x66 ∷ []);
+      solution = answered (Stop 1 0 1 (Whole false 255)) (0x55 ∷ 0x66 ∷ []);
+    }
+    -- a STOP names the number that was given: of −2^63 the magnitude, of an enum the source's number, of a real its 64 bits
+    ∷ record {
+      exercise = run (copyingRun (bytes signedLong) (bytes unsignedByte) 1 1 (0x80 ∷ 0 ∷ 0 ∷ 0 ∷ 0 ∷ 0 ∷ 0 ∷ 0 ∷ []) (0x55 ∷ []) words);
+      solution = answered (Stop 0 0 2 (Whole true 9223372036854775808)) (0x55 ∷ []);
+    }
+    ∷ record {
+      exercise = run (copyingRun (bytes state) (bytes exchanged) 1 1 (7 ∷ []) (0x55 ∷ []) words);
+      solution = answered (Stop 0 0 3 (Whole false 7)) (0x55 ∷ []);
+    }
+    ∷ record {
+      exercise = run (copyingRun (bytes realBE) (bytes unsignedByte) 1 1 (0x40 ∷ 4 ∷ 0 ∷ 0 ∷ 0 ∷ 0 ∷ 0 ∷ 0 ∷ []) (0x55 ∷ []) words);
+      solution = answered (Stop 0 0 5 (Real 0x4004000000000000)) (0x55 ∷ []);
     }
     ∷ record {
       exercise =
@@ -178,5 +196,5 @@ rows =
     ∷ []
 
 solved : map (λ (r : Row). solve (r .exercise)) rows ≡ map (λ (r : Row). r .solution) rows
-unfolding rows solve setters.setSize setters.setField same symbolOf numberNamed leaves.within leaves.leafAt paths.memberNamed paths.hasPath matches.matchAt text.split fields.digits fields.decimal fields.number fields.enumNumber fields.decimalIn fields.eachPrintable fields.name line.column line.order line.pad line.sign line.layoutColumns line.intLine line.bitsLine line.enumLineOf line.valueLineOf line.compoundLineOf line.memberLineOf line.numbers line.arrayLineOf line.realLineOf line.lineKind line.lineOf sheet.typeNumbered sheet.isApart sheet.judge sheet.linesFrom sheet.outcomeOf sheet.sheetOf worths.worth nearest.highest nearest.magnitudeBits reals.intToReal reals.realToIntOf one.reading one.withLeaf one.withLeavesBelow one.kindAt one.raisedBelow one.firstRaising many.joined many.exceptions runs.checksOf runs.stopFrom runs.answer runs.after lists.leafLines lists.leafList listing.answerOf listing.listAfter
+unfolding rows solve setters.setSize setters.setField same symbolOf numberNamed leaves.within leaves.leafAt paths.memberNamed paths.hasPath matches.matchAt text.split fields.digits fields.decimal fields.number fields.enumNumber fields.decimalIn fields.eachPrintable fields.name line.column line.order line.pad line.sign line.layoutColumns line.intLine line.bitsLine line.enumLineOf line.valueLineOf line.compoundLineOf line.memberLineOf line.numbers line.arrayLineOf line.realLineOf line.lineKind line.lineOf sheet.typeNumbered sheet.isApart sheet.judge sheet.linesFrom sheet.outcomeOf sheet.sheetOf worths.worth nearest.highest nearest.magnitudeBits reals.intToReal reals.realToIntOf one.reading one.withLeaf one.withLeavesBelow one.kindAt one.givenAt one.raisedBelow one.firstRaising many.joined many.exceptions runs.checksOf runs.stopFrom runs.answer runs.after lists.leafLines lists.leafList listing.answerOf listing.listAfter
 solved = refl

@@ -1,4 +1,5 @@
 pub mod Exercises
+pub mod Stops
 pub mod Reals
 pub mod Promises
 pub mod Demand1

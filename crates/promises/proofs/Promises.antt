@@ -33,6 +33,7 @@ use Rattle.runs.proofs.Checks.{done-is, stop-is, refused-or-passed, passed-tell
 use Rattle.runs.proofs.Exceptions.{handled-quiet, quiet-handled, handled-first, same-handled, handled-number, handled-count}
 use Rattle.runs.proofs.Buffers.{answer-refused, after-refused, answer-is, after-is, after-cases, result-none, result-converted, result-cleared, result-later, result-length}
 use Rattle.runs.proofs.Table.{cleared-zero, cleared-beyond, cleared-length, table-cases}
+use Rattle.promises.proofs.Stops.{first-leaf, first-record, first-byte, first-given}
 use Rattle.promises.specs.Promise.{answerNumber, answerFields, SameAnswer, IsDone, DoneWithoutException, RefusedBeforeStop, Types, before, SameCall, SameBackground, SameConverted, SameCleared, SameEffect, Demand3, OnSignificantBits, WayBack, Returned, fromCopy, AsFromCopy, becomes, recordOf, arrivedNumber, Arrived, Stopped, Uncovered, Kept, table, TableKept}
 
 -- ---- answers
@@ -422,10 +423,20 @@ arrival r S D t d m = arrived r S D (done-passes r S D t d) d m
 pub stopped : (r : Run) (S D : Datatype) → Types r S D → answerNumber r ≡ 8 → Stopped S D r
 stopped r S D t e =
     let c : checks r ≡ passed S D = passes r S D t (λ n. omega (arith, n .before)) in
+    let s = stop-is (answer r) e in
     let f =
-    handled-first S D (r .handling) (r .count) (readings S D (r .source)) (answerFields r .«record») (answerFields r .at) (answerFields r .kind)
-    (leb-true (r .handling) 1 (passed-tells r S D c .handling)) (sym (answer-is r S D c) ∙ stop-is (answer r) e) in
-    record { handling = f .0; names = f .1 }
+    handled-first S D (r .handling) (r .count) (readings S D (r .source)) (answerFields r .«record») (answerFields r .at) (answerFields r .kind) (s .0)
+    (leb-true (r .handling) 1 (passed-tells r S D c .handling)) (sym (answer-is r S D c) ∙ s .1) in
+    record {
+      handling = f .0;
+      given = s .0;
+      names = f .1;
+      number = record { sign = ap (λ (a : Answer). valuesOf a .given) (s .1); magnitude = ap (λ (a : Answer). valuesOf a .magnitude) (s .1) };
+      leaf = first-leaf S D (r .count) (r .source) (f .1);
+      of-record = first-record S D (r .count) (r .source) (f .1);
+      at-byte = first-byte S D (r .count) (r .source) (f .1);
+      is-matched = first-given S D (r .count) (r .source) (f .1);
+    }
 
 -- Demand 2, the rest of the buffer that is written.
 pub kept : (r : Run) → Kept r

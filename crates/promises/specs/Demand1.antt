@@ -5,6 +5,7 @@ use mathlib.Core.Logic.{_⊎_, _↔_}
 use mathlib.Core.List.{List, [], _∷_}
 use Prim.Native.Nat.{ℕ, _≤_, _<_}
 use lib.ListN.{length}
+use Rattle.answer.specs.declared.Given as answer
 use Rattle.answer.specs.declared.Values.{Values}
 use Rattle.datatype.specs.Datatype.{Datatype, size}
 use Rattle.datatype.specs.HasPath.{HasPath}
@@ -77,10 +78,11 @@ Fields r DESTINATION v = (line : ℕ) × FirstFault (r .destinationSheet) line �
 Fields r PATH v = v ≡ noField
 Fields r COUNT v = v ≡ noField
 Fields r ROOM v = v ≡ noField
--- "record, destination byte in it, kind": "STOP names the lowest record, and in it the raising leaf whose first byte is lowest."
+-- "record, destination byte in it, kind": "STOP names the lowest record, and in it the raising leaf whose first byte is lowest." Document 02, 2026-05: "8 gains
+-- the field" of the number that was given.
 Fields r STOP v =
     OfTypes r
-    (λ S D. (i : ℕ) × (b : ℕ) × (k : ℕ) × FirstException S D (r .count) (readings S D (r .source)) i b k × (v ≡ onlyPlace i b k))
+    (λ S D. (i : ℕ) × (b : ℕ) × (k : ℕ) × (g : answer.Given) × FirstException S D (r .count) (readings S D (r .source)) i b k g × (v ≡ onlyPlace i b k g))
 
 -- of "0 done", the "exception count": "how many matched leaves, over all records, raised one"
 abbrev pub DoneFields : Run → Values → Type 0

@@ -8,7 +8,8 @@ use Prim.Native.Nat.{ℕ, _+_, _*_, _≤_, _<_}
 use lib.ListN.{length, take, drop, replicate}
 use lib.IntN.{ℤ}
 use Rattle.answer.specs.declared.Values.{Values}
-use Rattle.answer.specs.Answer.{numberOf, valuesOf}
+use Rattle.answer.specs.Answer.{numberOf, givenSign, givenMagnitude, valuesOf}
+use Rattle.answer.specs.declared.Given.{Given}
 use Rattle.number.specs.declared.Fitted.{Fitted}
 use Rattle.number.specs.Place.{place, stored}
 use Rattle.datatype.specs.Datatype.{Leaf, layoutOf, leafSize, Datatype, size}
@@ -16,7 +17,7 @@ use Rattle.datatype.specs.Matches.{matchAt}
 use Rattle.datatype.specs.Matches.Match.{matched}
 use Rattle.sheet.specs.Sheet.{sheetOf}
 use Rattle.sheet.specs.Sheet.Sheet.{ofType}
-use Rattle.records.specs.Leaf.{numberIn, converted}
+use Rattle.records.specs.Leaf.{numberIn, givenOf, converted}
 use Rattle.records.specs.Arrival.{standsFor, Arrives}
 use Rattle.records.specs.Records.{recordAt, readings, exceptions}
 use Rattle.records.specs.Matched.{MatchedLeaf, matchedNumber, Agree, Differ, SignificantBit, bitIn, SameSignificantBits}
@@ -170,10 +171,22 @@ pub record Arrived {S D : Datatype} (r : Run) (m : MatchedLeaf S D (r .count)) :
   -- where that raised no exception: the number itself, or for an enum the number of its symbol
   pub number : becomes m (r .source) .kind ≡ 0 → Arrives (m .source) (m .destination) (matchedNumber m (r .source)) (arrivedNumber m (after r))
 
+-- the fields of an answer name the number g
+pub record NamesNumber (fields : Values) (g : Given) : Type 0 where
+  pub sign : fields .given ≡ givenSign g
+  pub magnitude : fields .magnitude ≡ givenMagnitude g
+
 -- "8 STOP: handling 1 and an exception exists", and what it names
 pub record Stopped (S D : Datatype) (r : Run) : Type 0 where
   pub handling : r .handling ≡ 1
-  pub names : FirstException S D (r .count) (readings S D (r .source)) (answerFields r .«record») (answerFields r .at) (answerFields r .kind)
+  pub given : Given
+  pub names : FirstException S D (r .count) (readings S D (r .source)) (answerFields r .«record») (answerFields r .at) (answerFields r .kind) given
+  pub number : NamesNumber (answerFields r) given
+  -- that is the matched number of the named leaf in the named record: its sign and magnitude, or of a real its 64 bits
+  pub leaf : MatchedLeaf S D (r .count)
+  pub of-record : leaf .index ≡ answerFields r .«record»
+  pub at-byte : leaf .to ≡ answerFields r .at
+  pub is-matched : given ≡ givenOf (leaf .source) (matchedNumber leaf (r .source))
 
 -- no matched leaf covers byte j of a destination record
 abbrev pub Uncovered : Datatype → Datatype → ℕ → Type 0

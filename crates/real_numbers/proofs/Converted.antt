@@ -5,6 +5,8 @@ use Prim.Native.Nat.{ℕ, _*_, _/_, _%_, _^_, _≤_, _<_}
 use lib.Dec.{eqb, ltb}
 use lib.Pow.{pow-pos}
 use borrow.Author.Tests.{eqb-true, ltb-true, ltb-false}
+use Rattle.answer.specs.declared.Given.{Given}
+use Rattle.answer.specs.declared.Given.the-variants.{Real}
 use Rattle.number.specs.Number.{fittedTo}
 use Rattle.real_numbers.specs.declared.cut.Cut.{Cut}
 use Rattle.real_numbers.specs.declared.cut.Cut.the-variants.{NotANumber, Beyond, Whole}
@@ -46,27 +48,29 @@ whole-lost t m = go (eqb (m % quantaPerOne) 0) refl
         let w : m / quantaPerOne * quantaPerOne ≡ m = whole-quotient m quantaPerOne z in
         ap (λ (u : Bool). t && u) (sym (zero-scale (m / quantaPerOne) quantaPerOne (pow-pos 1074)) ∙ ap (λ (r : ℕ). eqb r 0) w)
 
-nan-worth : (signed : Bool) (p : ℕ) (w : Worth) → View w NotANumber → record { raw = 0; kind = 4 } ≡ worthToInt signed p w
-nan-worth signed p w nan = refl
+nan-worth : (g : Given) (signed : Bool) (p : ℕ) (w : Worth) → View w NotANumber → record { raw = 0; kind = 4; given = g } ≡ worthToInt g signed p w
+nan-worth g signed p w nan = refl
 
-beyond-worth : (signed : Bool) (p : ℕ) (w : Worth) (t : Bool) → 1 ≤ p → p ≤ 64 → View w (Beyond t) → worthToInt signed p (infinite t) ≡ worthToInt signed p w
-beyond-worth signed p w t a b inf = refl
-beyond-worth signed p w t a b (far {m = m} h) = beyond-out signed p t (m / quantaPerOne) (lost t m) a b h
+beyond-worth : (g : Given) (signed : Bool) (p : ℕ) (w : Worth) (t : Bool) → 1 ≤ p → p ≤ 64 → View w (Beyond t)
+    → worthToInt g signed p (infinite t) ≡ worthToInt g signed p w
+beyond-worth g signed p w t a b inf = refl
+beyond-worth g signed p w t a b (far {m = m} h) = beyond-out g signed p t (m / quantaPerOne) (lost t m) a b h
 
-whole-worth : (signed : Bool) (p : ℕ) (w : Worth) (t : Bool) (n : ℕ) (f : Bool) → View w (Whole t n f)
-    → noting (f || (t && eqb n 0)) (fittedTo signed p (withSign t n)) ≡ worthToInt signed p w
-whole-worth signed p w t n f (near {m = m} h) = ap (λ (l : Bool). noting l (fittedTo signed p (withSign t (m / quantaPerOne)))) (whole-lost t m)
+whole-worth : (g : Given) (signed : Bool) (p : ℕ) (w : Worth) (t : Bool) (n : ℕ) (f : Bool) → View w (Whole t n f)
+    → noting g (f || (t && eqb n 0)) (fittedTo signed p (withSign t n)) ≡ worthToInt g signed p w
+whole-worth g signed p w t n f (near {m = m} h) = ap (λ (l : Bool). noting g l (fittedTo signed p (withSign t (m / quantaPerOne)))) (whole-lost t m)
 
 module _ (signed : Bool) (p b : ℕ) where
-  pub nan-int : (c : Cut) → c ≡ cutOf (worth b) → c ≡ NotANumber → record { raw = 0; kind = 4 } ≡ realToIntOf signed p b
+  pub nan-int : (c : Cut) → c ≡ cutOf (worth b) → c ≡ NotANumber → record { raw = 0; kind = 4; given = Real b } ≡ realToIntOf signed p b
   unfolding realToIntOf
-  nan-int c e f = nan-worth signed p (worth b) (viewed (worth b) NotANumber (sym f ∙ e))
+  nan-int c e f = nan-worth (Real b) signed p (worth b) (viewed (worth b) NotANumber (sym f ∙ e))
 
-  pub beyond-int : (c : Cut) (t : Bool) → 1 ≤ p → p ≤ 64 → c ≡ cutOf (worth b) → c ≡ Beyond t → worthToInt signed p (infinite t) ≡ realToIntOf signed p b
+  pub beyond-int : (c : Cut) (t : Bool) → 1 ≤ p → p ≤ 64 → c ≡ cutOf (worth b) → c ≡ Beyond t
+      → worthToInt (Real b) signed p (infinite t) ≡ realToIntOf signed p b
   unfolding realToIntOf
-  beyond-int c t l h e f = beyond-worth signed p (worth b) t l h (viewed (worth b) (Beyond t) (sym f ∙ e))
+  beyond-int c t l h e f = beyond-worth (Real b) signed p (worth b) t l h (viewed (worth b) (Beyond t) (sym f ∙ e))
 
   pub whole-int : (c : Cut) (t : Bool) (n : ℕ) (g : Bool) → c ≡ cutOf (worth b) → c ≡ Whole t n g
-      → noting (g || (t && eqb n 0)) (fittedTo signed p (withSign t n)) ≡ realToIntOf signed p b
+      → noting (Real b) (g || (t && eqb n 0)) (fittedTo signed p (withSign t n)) ≡ realToIntOf signed p b
   unfolding realToIntOf
-  whole-int c t n g e f = whole-worth signed p (worth b) t n g (viewed (worth b) (Whole t n g) (sym f ∙ e))
+  whole-int c t n g e f = whole-worth (Real b) signed p (worth b) t n g (viewed (worth b) (Whole t n g) (sym f ∙ e))

@@ -5,12 +5,14 @@ use Prim.Native.Nat.{ℕ, zero, suc, _+_, _-_, _^_, _<_}
 use native.Mathlib.Omega.{arith}
 use native.Mathlib.Numerals.{add-one}
 use lib.IntN.{ℤ, pos, negsuc}
+use Rattle.answer.specs.declared.Given.{Given}
 use Rattle.layout.specs.declared.Layout.{Layout}
 use Rattle.number.specs.declared.Fitted.{Fitted}
 use Rattle.number.specs.Number.{fitted}
 use Rattle.number.specs.Parts.{signedBy}
 use Rattle.reals.specs.Compare.{magnitude}
 use Rattle.reals.specs.Convert.{withSign, noting}
+use Rattle.fitting.specs.Named.{named}
 
 pub sign-zero : (s : Bool) (n : ℕ) → n ≡ 0 → pos 0 ≡ withSign s n
 sign-zero false zero e = refl
@@ -39,6 +41,6 @@ magnitude-positive false d e h = (refl, h)
 magnitude-positive true d e h = absurd (true≢false e)
 
 -- a loss noted of what was fitted
-pub noted-whole : (g f : Fitted) (r l : Bool) (y : Layout) (z w : ℤ) → g ≡ noting r f → r ≡ l → f ≡ fitted y z → z ≡ w → f .raw < 2 ^ y .precision
-    → (g ≡ noting l (fitted y w)) × (g .raw < 2 ^ y .precision)
-noted-whole g f r l y z w a b c d h = (a ∙ rw (b, c, d), rw a h)
+pub noted-whole : (x : Given) (g f : Fitted) (r l : Bool) (y : Layout) (z w : ℤ) → g ≡ noting (f .given) r f → r ≡ l → f ≡ named x (fitted y z) → z ≡ w
+    → f .raw < 2 ^ y .precision → (g ≡ noting x l (fitted y w)) × (g .raw < 2 ^ y .precision)
+noted-whole x g f r l y z w a b c d h = (a ∙ rw (b, c, d), rw a h)

@@ -9,6 +9,7 @@ pub mod cut;
 pub mod nearest;
 pub mod whole;
 
+use answer::Given;
 use cut::Cut;
 use cut::without_fraction;
 use layout::Layout;
@@ -25,7 +26,7 @@ use whole::magnitude_of;
 use whole::whole_to_int;
 use whole::with_sign;
 
-// The real b brought into l's range: its significant bits, and the kind of exception.
+// The real b brought into l's range: its significant bits, the kind of exception, and b as what was given.
 pub fn to_int(b: u64, l: Layout) -> Fitted
     requires { ⌜ Valid l ⌝ }
     ensures { λ r. ⌜ (r ≡ realToInt l b) × (r .raw < 2 ^ l .precision) ⌝ }
@@ -35,9 +36,10 @@ pub fn to_int(b: u64, l: Layout) -> Fitted
         Cut::NotANumber => Fitted {
             raw: 0,
             kind: NOT_A_NUMBER,
+            given: Given::Real(b),
         },
-        Cut::Beyond(negative) => end_to_int(negative, l),
-        Cut::Whole(negative, n, fraction) => whole_to_int(negative, n, fraction, l),
+        Cut::Beyond(negative) => end_to_int(b, negative, l),
+        Cut::Whole(negative, n, fraction) => whole_to_int(b, negative, n, fraction, l),
     }
 }
 
@@ -48,11 +50,17 @@ pub fn to_real(z: Number) -> Fitted
     let p = split_in_range(z);
     let n = magnitude_of(p.negative, p.distance);
     let raw = with_sign(p.negative, magnitude_bits(n));
+    let given = Given::Whole(p.negative, n);
     if is_double(n) {
         return Fitted {
             raw,
             kind: NO_EXCEPTION,
+            given,
         };
     }
-    Fitted { raw, kind: ROUNDED }
+    Fitted {
+        raw,
+        kind: ROUNDED,
+        given,
+    }
 }

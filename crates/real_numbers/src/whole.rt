@@ -3,6 +3,8 @@ ghost use mathlib.Core.Path.{_≡_};
 ghost use mathlib.Core.Bool.{true, cond, _&&_, _||_};
 ghost use Prim.Native.Nat.{_+_, _^_, _≤_, _<_};
 ghost use lib.Dec.{eqb};
+ghost use Rattle.answer.specs.declared.Given.{Given};
+ghost use Rattle.answer.specs.declared.Given.the-variants.{Real};
 ghost use Rattle.layout.specs.Layout.{Valid};
 ghost use Rattle.number.specs.Number.{fitted};
 ghost use Rattle.number.specs.Parts.{signedBy};
@@ -10,6 +12,7 @@ ghost use Rattle.reals.specs.Worth.Worth.{infinite};
 ghost use Rattle.reals.specs.Compare.{magnitude};
 ghost use Rattle.reals.specs.Convert.{withSign, noting, worthToInt};
 use crate::cut::SIGN;
+use answer::Given;
 use bits::shift::ones;
 use fitting::by_parts::fit_parts;
 use layout::Layout;
@@ -79,32 +82,34 @@ fn loses(negative: bool, n: u64, fraction: bool) -> bool
 
 // f with that loss noted, where nothing else was raised.
 fn noted(f: Fitted, lost: bool) -> Fitted
-    ensures { λ r. ⌜ r ≡ noting lost f ⌝ }
+    ensures { λ r. ⌜ r ≡ noting (f .given) lost f ⌝ }
 {
     if f.kind == NO_EXCEPTION {
         if lost {
+            let given = f.given;
             return Fitted {
                 raw: f.raw,
                 kind: TRUNCATED,
+                given,
             };
         }
     }
     f
 }
 
-// The whole number of a sign and a magnitude, which had a fraction or not, brought into l's range.
-pub fn whole_to_int(negative: bool, n: u64, fraction: bool, l: Layout) -> Fitted
+// The whole number of a sign and a magnitude, to which the real b was cut, with a fraction or not, brought into l's range.
+pub fn whole_to_int(b: u64, negative: bool, n: u64, fraction: bool, l: Layout) -> Fitted
     requires { ⌜ Valid l ⌝ }
-    ensures { λ r. ⌜ (r ≡ noting (fraction || (negative && eqb n 0)) (fitted l (withSign negative n))) × (r .raw < 2 ^ l .precision) ⌝ }
+    ensures { λ r. ⌜ (r ≡ noting (Real b) (fraction || (negative && eqb n 0)) (fitted l (withSign negative n))) × (r .raw < 2 ^ l .precision) ⌝ }
 {
-    let f = fit_parts(signed_number(negative, n), l);
+    let f = fit_parts(signed_number(negative, n), l, Given::Real(b));
     noted(f, loses(negative, n, fraction))
 }
 
 // The significant bits of the end of a range that lies toward an infinity.
 fn range_end(negative: bool, signed: bool, precision: u32) -> u64
     requires { ⌜ (1 ≤ precision) × (precision ≤ 64) ⌝ }
-    ensures { λ r. ⌜ (r ≡ worthToInt signed precision (infinite negative) .raw) × (r < 2 ^ precision) ⌝ }
+    ensures { λ r. ⌜ ((g : Given) → r ≡ worthToInt g signed precision (infinite negative) .raw) × (r < 2 ^ precision) ⌝ }
 {
     if signed {
         let most = ones(precision - 1);
@@ -119,14 +124,23 @@ fn range_end(negative: bool, signed: bool, precision: u32) -> u64
     ones(precision)
 }
 
-// An infinity, or a number beyond every range, brought into l's range.
-pub fn end_to_int(negative: bool, l: Layout) -> Fitted
+// The real b, an infinity or beyond every range, brought into l's range.
+pub fn end_to_int(b: u64, negative: bool, l: Layout) -> Fitted
     requires { ⌜ Valid l ⌝ }
-    ensures { λ r. ⌜ (r ≡ worthToInt (l .signed) (l .precision) (infinite negative)) × (r .raw < 2 ^ l .precision) ⌝ }
+    ensures { λ r. ⌜ (r ≡ worthToInt (Real b) (l .signed) (l .precision) (infinite negative)) × (r .raw < 2 ^ l .precision) ⌝ }
 {
     let raw = range_end(negative, l.signed, l.precision);
+    let given = Given::Real(b);
     if negative {
-        return Fitted { raw, kind: BELOW };
+        return Fitted {
+            raw,
+            kind: BELOW,
+            given,
+        };
     }
-    Fitted { raw, kind: ABOVE }
+    Fitted {
+        raw,
+        kind: ABOVE,
+        given,
+    }
 }

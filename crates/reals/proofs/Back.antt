@@ -9,8 +9,10 @@ use lib.Dec.{eqb, ltb, lit≤}
 use lib.IntN.{ℤ, pos, negsuc}
 use lib.Pow.{pow-pos, pow-mono}
 use borrow.Author.Tests.{eqb-true, eq-eqb, ne-eqb, not-false, ltb-false}
+use Rattle.answer.specs.declared.Given.{Given}
+use Rattle.answer.specs.declared.Given.the-variants.{Real}
 use Rattle.number.specs.declared.Fitted.{Fitted}
-use Rattle.number.specs.Number.{valued, fittedTo}
+use Rattle.number.specs.Number.{valued, numberGiven, fittedTo}
 use Rattle.number.proofs.RoundTrip.{fitted-back, bits-back}
 use Rattle.reals.specs.Worth.{quantaPerOne, quantaOf, Worth, worth}
 use Rattle.reals.specs.Worth.Worth.{notANumber, infinite, finite}
@@ -45,18 +47,20 @@ exact-worth z l e =
     n .is ∙ ap (finite (below0 z)) (eqb-true _ _ (and-left _ _ t))
 
 -- such a worth, cut toward zero, is z, and nothing is lost
-own-worth : (signed : Bool) (p : ℕ) (z : ℤ) → worthToInt signed p (finite (below0 z) (magnitude z * quantaPerOne)) ≡ fittedTo signed p z
-own-worth signed p (pos n) =
-    rw (mul-div-cancel n (pow-pos 1074), mul-mod-left n quantaPerOne) (noting-nothing (fittedTo signed p (pos n)))
-own-worth signed p (negsuc n) =
+own-worth : (g : Given) (signed : Bool) (p : ℕ) (z : ℤ)
+    → worthToInt g signed p (finite (below0 z) (magnitude z * quantaPerOne)) ≡ record { raw = fittedTo signed p z .raw; kind = fittedTo signed p z .kind; given = g }
+own-worth g signed p (pos n) =
+    rw (mul-div-cancel n (pow-pos 1074), mul-mod-left n quantaPerOne) (noting-nothing g (fittedTo signed p (pos n)))
+own-worth g signed p (negsuc n) =
     let z : eqb (suc n) 0 ≡ false = ne-eqb (suc n) 0 (λ e. omega arith) in
     rw (mul-div-cancel (suc n) (pow-pos 1074), mul-mod-left (suc n) quantaPerOne, zero-scale (suc n) quantaPerOne (pow-pos 1074), z)
-    (noting-nothing (fittedTo signed p (negsuc n)))
+    (noting-nothing g (fittedTo signed p (negsuc n)))
 
 -- Int to real without kind 6, then real to int: what int to int gives, in every layout.
-pub int-back : (signed : Bool) (p : ℕ) (z : ℤ) → magnitude z < 2 ^ 64 → intToReal z .kind ≡ 0 → realToIntOf signed p (nearest z) ≡ fittedTo signed p z
+pub int-back : (signed : Bool) (p : ℕ) (z : ℤ) → magnitude z < 2 ^ 64 → intToReal z .kind ≡ 0
+    → realToIntOf signed p (nearest z) ≡ record { raw = fittedTo signed p z .raw; kind = fittedTo signed p z .kind; given = Real (nearest z) }
 unfolding realToIntOf
-int-back signed p z l e = ap (worthToInt signed p) (exact-worth z l e) ∙ own-worth signed p z
+int-back signed p z l e = ap (worthToInt (Real (nearest z)) signed p) (exact-worth z l e) ∙ own-worth (Real (nearest z)) signed p z
 
 sign-and-magnitude : (z w : ℤ) → below0 z ≡ below0 w → magnitude z ≡ magnitude w → z ≡ w
 sign-and-magnitude (pos n) (pos m) s e = ap pos e
@@ -126,7 +130,7 @@ is-own false n z = rw (eq-eqb (n * quantaPerOne) (n * quantaPerOne) refl) (or-tr
 is-own true zero z = absurd (true≢false z)
 is-own true (suc n) z = rw (eq-eqb (suc n * quantaPerOne) (suc n * quantaPerOne) refl) (or-true (eqb (suc n * quantaPerOne) 0))
 
-real-of : (z : ℤ) (b : ℕ) → nearest z ≡ b → equals b z ≡ true → intToReal z ≡ record { raw = b; kind = 0 }
+real-of : (z : ℤ) (b : ℕ) → nearest z ≡ b → equals b z ≡ true → intToReal z ≡ record { raw = b; kind = 0; given = numberGiven z }
 unfolding intToReal
 real-of z b e f = rw (e, f)
 
@@ -138,18 +142,18 @@ not-lost s m e =
     (sym w, ap (λ (u : Bool). s && u) z ∙ or-false-right (not (eqb (m % quantaPerOne) 0)) _ e)
 
 back-finite : (signed : Bool) (p b : ℕ) (s : Bool) (m : ℕ) → 1 ≤ p → p ≤ 64 → worth b ≡ finite s m → Apart b (finite s m)
-    → worthToInt signed p (finite s m) .kind ≡ 0
-    → intToReal (valued signed p (worthToInt signed p (finite s m) .raw)) ≡ record { raw = b; kind = 0 }
+    → worthToInt (Real b) signed p (finite s m) .kind ≡ 0
+    → let z = valued signed p (worthToInt (Real b) signed p (finite s m) .raw) in intToReal z ≡ record { raw = b; kind = 0; given = numberGiven z }
 back-finite signed p b s m a h w (fin {x = x} {t = t} xl tl is) e =
-    let k = noting-zero (lost s (quantaOf x t)) (fittedTo signed p (towardZero s (quantaOf x t))) e in
+    let k = noting-zero (Real b) (lost s (quantaOf x t)) (fittedTo signed p (towardZero s (quantaOf x t))) e in
     let n = quantaOf x t / quantaPerOne in
     let q = not-lost s (quantaOf x t) (k .1) in
     let c : nearest (withSign s n) ≡ b = exact-bits s x t n tl (q .0) (fits-lt signed p s n a h (k .0)) (q .1) ∙ sym is in
     let f : equals b (withSign s n) ≡ true = ap (λ (v : Worth). isWorth v (withSign s n)) (w ∙ ap (finite s) (q .0)) ∙ is-own s n (q .1) in
-    ap intToReal (fitted-back signed p (withSign s n) a (k .0)) ∙ real-of (withSign s n) b c f
+    rw (fitted-back signed p (withSign s n) a (k .0)) (real-of (withSign s n) b c f)
 
-back-worth : (signed : Bool) (p b : ℕ) (w : Worth) → 1 ≤ p → p ≤ 64 → worth b ≡ w → Apart b w → worthToInt signed p w .kind ≡ 0
-    → intToReal (valued signed p (worthToInt signed p w .raw)) ≡ record { raw = b; kind = 0 }
+back-worth : (signed : Bool) (p b : ℕ) (w : Worth) → 1 ≤ p → p ≤ 64 → worth b ≡ w → Apart b w → worthToInt (Real b) signed p w .kind ≡ 0
+    → let z = valued signed p (worthToInt (Real b) signed p w .raw) in intToReal z ≡ record { raw = b; kind = 0; given = numberGiven z }
 back-worth signed p b notANumber a h w q e = absurd (omega (arith, e))
 back-worth signed p b (infinite false) a h w q e = absurd (omega (arith, e))
 back-worth signed p b (infinite true) a h w q e = absurd (omega (arith, e))
@@ -157,7 +161,7 @@ back-worth signed p b (finite s m) a h w q e = back-finite signed p b s m a h w 
 
 -- Real to int without an exception, then int to real: the very 64 bits, and nothing raised.
 pub real-back : (signed : Bool) (p b : ℕ) → 1 ≤ p → p ≤ 64 → b < 2 ^ 64 → realToIntOf signed p b .kind ≡ 0
-    → intToReal (valued signed p (realToIntOf signed p b .raw)) ≡ record { raw = b; kind = 0 }
+    → let z = valued signed p (realToIntOf signed p b .raw) in intToReal z ≡ record { raw = b; kind = 0; given = numberGiven z }
 unfolding realToIntOf
 real-back signed p b a h l e = back-worth signed p b (worth b) a h refl (apart-of b l) e
 
@@ -182,9 +186,11 @@ valued-lt true p r a h l = go (ltb r (2 ^ (p - 1))) refl
         omega arith
 
 pub int-leaf-back : (signed : Bool) (p r : ℕ) → 1 ≤ p → p ≤ 64 → r < 2 ^ p → intToReal (valued signed p r) .kind ≡ 0
-    → realToIntOf signed p (intToReal (valued signed p r) .raw) ≡ record { raw = r; kind = 0 }
+    → let b = intToReal (valued signed p r) .raw in realToIntOf signed p b ≡ record { raw = r; kind = 0; given = Real b }
 unfolding intToReal
-int-leaf-back signed p r a h l e = int-back signed p (valued signed p r) (valued-lt signed p r a h l) e ∙ bits-back signed p r a l
+int-leaf-back signed p r a h l e =
+    int-back signed p (valued signed p r) (valued-lt signed p r a h l) e
+    ∙ ap (λ (f : Fitted). record { raw = f .raw; kind = f .kind; given = Real (nearest (valued signed p r)) }) (bits-back signed p r a l)
 
 -- what arrives without an exception is worth the same
 pub real-int-worth : (signed : Bool) (p b : ℕ) → 1 ≤ p → p ≤ 64 → b < 2 ^ 64 → realToIntOf signed p b .kind ≡ 0
@@ -204,4 +210,4 @@ int-real-raw z l = nearest-lt z l
 -- whatever the bits, what they become has p bits
 pub real-int-lt : (signed : Bool) (p b : ℕ) → 1 ≤ p → realToIntOf signed p b .raw < 2 ^ p
 unfolding realToIntOf
-real-int-lt signed p b a = worth-lt signed p (worth b) a
+real-int-lt signed p b a = worth-lt (Real b) signed p (worth b) a

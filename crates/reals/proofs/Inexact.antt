@@ -7,6 +7,7 @@ use native.Mathlib.Omega.{arith}
 use lib.Dec.{eqb}
 use lib.IntN.{ℤ}
 use borrow.Author.Tests.{eq-eqb}
+use Rattle.number.specs.Number.{numberGiven}
 use Rattle.reals.specs.Worth.{quantaPerOne, Worth, worth}
 use Rattle.reals.specs.Worth.Worth.{finite}
 use Rattle.reals.specs.Compare.{below0, magnitude, isWorth, equals}
@@ -18,9 +19,9 @@ use Rattle.reals.proofs.Unique.{unique}
 use Rattle.reals.proofs.Back.{exact-worth}
 
 -- the whole answer, from `IsNearest` alone
-pub nearest-answer : (z : ℤ) (b : ℕ) → magnitude z < 2 ^ 64 → b < 2 ^ 64 → IsNearest z b → intToReal z ≡ record { raw = b; kind = cond (equals b z) 0 6 }
+pub nearest-answer : (z : ℤ) (b : ℕ) → magnitude z < 2 ^ 64 → b < 2 ^ 64 → IsNearest z b → intToReal z ≡ record { raw = b; kind = cond (equals b z) 0 6; given = numberGiven z }
 unfolding intToReal
-nearest-answer z b l h i = ap (λ (c : ℕ). record { raw = c; kind = cond (equals c z) 0 6 }) (sym (unique z b l h i))
+nearest-answer z b l h i = ap (λ (c : ℕ). record { raw = c; kind = cond (equals c z) 0 6; given = numberGiven z }) (sym (unique z b l h i))
 
 -- kind 6 exactly where the double is another number
 pub six-where-other : (z : ℤ) → equals (intToReal z .raw) z ≡ false → intToReal z .kind ≡ 6

@@ -5,6 +5,7 @@ use Prim.Native.Nat.{ℕ, _^_, _<_}
 use lib.IntN.{ℤ}
 use Rattle.layout.specs.declared.Layout.{Layout}
 use Rattle.layout.specs.Layout.{Valid}
+use Rattle.answer.specs.declared.Given.the-variants.{Real}
 use Rattle.number.specs.declared.Fitted.{Fitted}
 use Rattle.number.specs.Number.{valued, fitted}
 use Rattle.number.proofs.RoundTrip.{fitted-back}
@@ -33,13 +34,13 @@ module _ (l : Layout) (z : ℤ) (v : Valid l) (in-range : fitted l z .kind ≡ 0
       → (realToInt l (intToReal z .raw) .kind ≡ 0) × (valued (l .signed) (l .precision) (realToInt l (intToReal z .raw) .raw) ≡ z)
   unfolding intToReal
   int-real-back e =
-      let q : realToInt l (nearest z) ≡ fitted l z = int-back (l .signed) (l .precision) z int-real-small e in
+      let q = int-back (l .signed) (l .precision) z int-real-small e in
       let w = ap (λ (f : Fitted). valued (l .signed) (l .precision) (f .raw)) q in
       (ap (λ (f : Fitted). f .kind) q ∙ in-range, w ∙ fitted-back (l .signed) (l .precision) z (v .some) in-range)
 
 -- the same by the significant bits r of the int leaf
 pub int-leaf-back : (l : Layout) (r : ℕ) → Valid l → r < 2 ^ l .precision → intToReal (valued (l .signed) (l .precision) r) .kind ≡ 0
-    → realToInt l (intToReal (valued (l .signed) (l .precision) r) .raw) ≡ record { raw = r; kind = 0 }
+    → let b = intToReal (valued (l .signed) (l .precision) r) .raw in realToInt l b ≡ record { raw = r; kind = 0; given = Real b }
 int-leaf-back l r v h e = back.int-leaf-back (l .signed) (l .precision) r (v .some) (v .most) h e
 
 -- different numbers become different doubles

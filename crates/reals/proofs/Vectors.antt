@@ -5,7 +5,9 @@ use mathlib.Core.Bool.{Bool, true, false}
 use mathlib.Core.List.{List, [], _∷_, map}
 use Prim.Native.Nat.{ℕ, _+_, _-_, _^_}
 use lib.IntN.{ℤ, pos, negsuc}
+use Rattle.answer.specs.declared.Given.the-variants.{Real}
 use Rattle.number.specs.declared.Fitted.{Fitted}
+use Rattle.number.specs.Number.{numberGiven}
 use Rattle.reals.specs.Worth.{worth}
 use Rattle.reals.specs.Nearest.{highest, magnitudeBits}
 use Rattle.reals.specs.Compare.{equals}
@@ -28,9 +30,9 @@ given (copied b c) = fits (realToReal b)
 given (compared b z t) = same (equals b z)
 
 abbrev pub wanted : Case → Answer
-wanted (toReal z b k) = fits (record { raw = b; kind = k })
-wanted (toInt s p b r k) = fits (record { raw = r; kind = k })
-wanted (copied b c) = fits (record { raw = c; kind = 0 })
+wanted (toReal z b k) = fits (record { raw = b; kind = k; given = numberGiven z })
+wanted (toInt s p b r k) = fits (record { raw = r; kind = k; given = Real b })
+wanted (copied b c) = fits (record { raw = c; kind = 0; given = Real b })
 wanted (compared b z t) = same t
 
 abbrev pub cases : List Case

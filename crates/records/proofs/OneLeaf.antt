@@ -13,10 +13,12 @@ use Rattle.layout.specs.declared.Layout.{Layout}
 use Rattle.layout.specs.Layout.{Valid}
 use Rattle.number.specs.declared.Fitted.{Fitted}
 use Rattle.number.specs.Place.{rawAt}
-use Rattle.number.specs.Number.{valued, fitted}
+use Rattle.number.specs.Number.{valued, numberGiven, fitted}
+use Rattle.number.proofs.Range.{fitted-given}
 use Rattle.number.proofs.RoundTrip.{fitted-back, fitted-lt, bits-back}
 use Rattle.reals.specs.Compare.{equals}
 use Rattle.reals.specs.Convert.{intToReal, realToInt}
+use Rattle.reals.proofs.Ends.{real-given}
 use Rattle.reals.proofs.LeafBack.{int-real-lt, int-real-arrives, int-real-back, real-int-fits, real-int-arrives, real-int-back}
 use Rattle.datatype.specs.Datatype.{Symbol, Leaf, layoutOf, binary64, same}
 use Rattle.datatype.specs.Datatype.Leaf.{atomic, enumeration, real}
@@ -25,7 +27,7 @@ use Rattle.datatype.specs.Paths.{leafPath}
 use Rattle.datatype.specs.WellFormed.{Symbols, WellFormedLeaf}
 use Rattle.datatype.proofs.Tests.{nothing, same→eq, same-refl, sameNumber→eq, sameNumber-refl}
 use Rattle.datatype.proofs.Ways.{valid}
-use Rattle.records.specs.Leaf.{numberIn, symbols, translated, untranslated, realBits, converted}
+use Rattle.records.specs.Leaf.{numberIn, symbols, translated, translatedTo, untranslated, realBits, givenOf, converted}
 use Rattle.records.specs.Arrival.{standsFor, Arrives}
 
 -- ---- symbols go both ways
@@ -118,12 +120,29 @@ pub converted-lt : (x y : Leaf) (z : ℤ) → WellFormedLeaf x → WellFormedLea
 converted-lt x (atomic l) z f g h = into-atomic-lt x l z g
 converted-lt x (enumeration l ts) z f g h = go (translated (symbols x) ts z)
   where
-    go : (o : Option ℤ) → onSome (fitted l) (untranslated l) o .raw < 2 ^ l .precision
+    go : (o : Option ℤ) → onSome (translatedTo l (givenOf x z)) (untranslated l (givenOf x z)) o .raw < 2 ^ l .precision
     go none = ones-lt (l .precision)
     go (some w) = fitted-lt (l .signed) (l .precision) w (g .base .some)
 converted-lt (atomic k) (real l) z f g h = rw (real-precision l g) (into-real-lt (atomic k) z f h)
 converted-lt (enumeration k ss) (real l) z f g h = rw (real-precision l g) (into-real-lt (enumeration k ss) z f h)
 converted-lt (real k) (real l) z f g h = rw (real-precision l g) (real-bits k z f h .fits)
+
+-- ---- what was given
+
+-- the matched number itself, by its leaf: of an enum the source's, of a real its 64 bits
+pub given-matched : (x y : Leaf) (z : ℤ) → converted x y z .given ≡ givenOf x z
+unfolding intToReal
+given-matched (atomic k) (atomic l) z = fitted-given l z
+given-matched (enumeration k ss) (atomic l) z = fitted-given l z
+given-matched (real k) (atomic l) z = real-given l (realBits z)
+given-matched x (enumeration l ts) z = go (translated (symbols x) ts z)
+  where
+    go : (o : Option ℤ) → onSome (translatedTo l (givenOf x z)) (untranslated l (givenOf x z)) o .given ≡ givenOf x z
+    go none = refl
+    go (some w) = refl
+given-matched (atomic k) (real l) z = refl
+given-matched (enumeration k ss) (real l) z = refl
+given-matched (real k) (real l) z = refl
 
 -- ---- what arrives
 
@@ -139,7 +158,7 @@ arrives (enumeration k ss) (atomic l) z f g h e = fitted-back (l .signed) (l .pr
 arrives (real k) (atomic l) z f g h e = real-int-arrives l (realBits z) g (real-bits k z f h .fits) e
 arrives x (enumeration l ts) z f g h e = go (translated (symbols x) ts z) e
   where
-    go : (o : Option ℤ) → onSome (fitted l) (untranslated l) o .kind ≡ 0 → o ≡ some (standsFor (enumeration l ts) (onSome (fitted l) (untranslated l) o .raw))
+    go : (o : Option ℤ) → onSome (translatedTo l (givenOf x z)) (untranslated l (givenOf x z)) o .kind ≡ 0 → o ≡ some (standsFor (enumeration l ts) (onSome (translatedTo l (givenOf x z)) (untranslated l (givenOf x z)) o .raw))
     go none d = let no : _≡_ {A = ℕ} 3 0 = d in absurd (omega arith)
     go (some w) d = ap (λ (v : ℤ). some v) (sym (fitted-back (l .signed) (l .precision) w (g .base .some) d))
 arrives (atomic k) (real l) z f g h e = into-real-arrives (atomic k) l z f g h e
@@ -161,11 +180,11 @@ listed-in-range l (s ∷ ss) x z f e = go (same x (s .name)) e (λ g. listed-in-
 pub enum-kind : (x : Leaf) (l : Layout) (ts : List Symbol) (z : ℤ) → WellFormedLeaf (enumeration l ts) → (converted x (enumeration l ts) z .kind ≡ 3) ⊎ (converted x (enumeration l ts) z .kind ≡ 0)
 enum-kind x l ts z f = go (symbolOf z (symbols x))
   where
-    at : (y : List ℕ) (o : Option ℤ) → numberOf y ts ≡ o → (onSome (fitted l) (untranslated l) o .kind ≡ 3) ⊎ (onSome (fitted l) (untranslated l) o .kind ≡ 0)
+    at : (y : List ℕ) (o : Option ℤ) → numberOf y ts ≡ o → (onSome (translatedTo l (givenOf x z)) (untranslated l (givenOf x z)) o .kind ≡ 3) ⊎ (onSome (translatedTo l (givenOf x z)) (untranslated l (givenOf x z)) o .kind ≡ 0)
     at y none q = inl refl
     at y (some w) q = inr (listed-in-range l ts y w (f .symbols) q)
 
-    go : (o : Option (List ℕ)) → (onSome (fitted l) (untranslated l) (onSome (λ y. numberOf y ts) none o) .kind ≡ 3) ⊎ (onSome (fitted l) (untranslated l) (onSome (λ y. numberOf y ts) none o) .kind ≡ 0)
+    go : (o : Option (List ℕ)) → (onSome (translatedTo l (givenOf x z)) (untranslated l (givenOf x z)) (onSome (λ y. numberOf y ts) none o) .kind ≡ 3) ⊎ (onSome (translatedTo l (givenOf x z)) (untranslated l (givenOf x z)) (onSome (λ y. numberOf y ts) none o) .kind ≡ 0)
     go none = inl refl
     go (some y) = at y (numberOf y ts) refl
 
@@ -205,11 +224,11 @@ leaf-back (real l) (real k) z f g c h e =
 leaf-back (enumeration l ss) (atomic k) z f g c h e = absurd (false≢true c)
 leaf-back (enumeration l ss) (enumeration k ts) z f g c h e = go (translated ss ts z) refl e
   where
-    go : (o : Option ℤ) → translated ss ts z ≡ o → onSome (fitted k) (untranslated k) o .kind ≡ 0
-        → Returns (enumeration l ss) (enumeration k ts) z (standsFor (enumeration k ts) (onSome (fitted k) (untranslated k) (translated ss ts z) .raw))
+    go : (o : Option ℤ) → translated ss ts z ≡ o → onSome (translatedTo k (numberGiven z)) (untranslated k (numberGiven z)) o .kind ≡ 0
+        → Returns (enumeration l ss) (enumeration k ts) z (standsFor (enumeration k ts) (onSome (translatedTo k (numberGiven z)) (untranslated k (numberGiven z)) (translated ss ts z) .raw))
     go none q d = let no : _≡_ {A = ℕ} 3 0 = d in absurd (omega arith)
     go (some w) q d =
         let i : valued (k .signed) (k .precision) (fitted k w .raw) ≡ w = fitted-back (k .signed) (k .precision) w (g .base .some) d in
         let j : translated ts ss w ≡ some z = translated-back l k ss ts z w (f .symbols) (g .symbols) q in
-        subst (Returns (enumeration l ss) (enumeration k ts) z) (sym (ap (λ (o : Option ℤ). standsFor (enumeration k ts) (onSome (fitted k) (untranslated k) o .raw)) q ∙ i))
-        (record { quiet = ap (λ (o : Option ℤ). onSome (fitted l) (untranslated l) o .kind) j ∙ h; same = ap (λ (o : Option ℤ). standsFor (enumeration l ss) (onSome (fitted l) (untranslated l) o .raw)) j ∙ fitted-back (l .signed) (l .precision) z (f .base .some) h })
+        subst (Returns (enumeration l ss) (enumeration k ts) z) (sym (ap (λ (o : Option ℤ). standsFor (enumeration k ts) (onSome (translatedTo k (numberGiven z)) (untranslated k (numberGiven z)) o .raw)) q ∙ i))
+        (record { quiet = ap (λ (o : Option ℤ). onSome (translatedTo l (numberGiven w)) (untranslated l (numberGiven w)) o .kind) j ∙ h; same = ap (λ (o : Option ℤ). standsFor (enumeration l ss) (onSome (translatedTo l (numberGiven w)) (untranslated l (numberGiven w)) o .raw)) j ∙ fitted-back (l .signed) (l .precision) z (f .base .some) h })

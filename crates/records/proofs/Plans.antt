@@ -13,8 +13,8 @@ use Rattle.datatype.specs.Matches.Match.{unmatched, matched}
 use Rattle.datatype.specs.WellFormed.{WellFormed}
 use Rattle.datatype.proofs.Matches.{in-range, match-formed}
 use Rattle.records.specs.Leaf.{numberIn, converted}
-use Rattle.records.specs.Record.{reading, withLeaf, withLeavesBelow, convertedRecord, kindAt, raises, raisedBelow, orLater, firstRaising}
-use Rattle.records.specs.Plan.{planFrom, planOf, written, raisedBy, orElse, firstBy, AllSound}
+use Rattle.records.specs.Record.{reading, withLeaf, withLeavesBelow, convertedRecord, kindAt, nothingGiven, givenAt, raises, raisedBelow, orLater, firstRaising}
+use Rattle.records.specs.Plan.{planFrom, planOf, written, raisedBy, Raised, orElse, firstBy, AllSound}
 use Rattle.records.specs.Plan.Raised.{nowhere, at}
 
 module _ (S D : Datatype) (r : List ℕ) where
@@ -42,18 +42,24 @@ module _ (S D : Datatype) (r : List ℕ) where
       go unmatched = omega arith
       go (matched a x y) = refl
 
-  first-next : (b k : ℕ) → firstBy (planFrom S D b (suc k)) r ≡ orElse b (kindAt S D (reading S D r) b) (firstBy (planFrom S D (suc b) k) r)
-  unfolding planFrom firstBy kindAt reading
+  first-next : (b k : ℕ) → firstBy (planFrom S D b (suc k)) r
+      ≡ orElse b (kindAt S D (reading S D r) b) (givenAt S D (reading S D r) b) (firstBy (planFrom S D (suc b) k) r)
+  unfolding planFrom firstBy kindAt givenAt reading
   first-next b k = go (matchAt S D b)
     where
       go : (m : Match)
           → firstBy (onMatch (λ a x y. record { to = b; from = a; source = x; destination = y } ∷ planFrom S D (suc b) k) (planFrom S D (suc b) k) m) r
           ≡ orElse b (onMatch (λ a x y. onSome (λ z. converted x y z .kind) 0 (onMatch (λ a x y. some (numberIn x a r)) none m)) 0 m)
+          (onMatch (λ a x y. onSome (λ z. converted x y z .given) nothingGiven (onMatch (λ a x y. some (numberIn x a r)) none m)) nothingGiven m)
           (firstBy (planFrom S D (suc b) k) r)
       go unmatched = refl
       go (matched a x y) = refl
 
   -- ---- the bytes from b on
+
+  -- the leaf at byte c, where it raises an exception
+  abbrev raised : ℕ → Raised
+  raised c = at c (kindAt S D (reading S D r) c) (givenAt S D (reading S D r) c)
 
   written-from : (b k : ℕ) (d : List ℕ)
       → written (planFrom S D b k) r (withLeavesBelow S D (reading S D r) b d) ≡ withLeavesBelow S D (reading S D r) (b + k) d
@@ -71,15 +77,15 @@ module _ (S D : Datatype) (r : List ℕ) where
       rw (e, raised-next b k) (omega (arith, raised-from (suc b) k))
 
   first-from : (b k : ℕ)
-      → firstBy (planFrom S D b k) r ≡ onSome (λ c. at c (kindAt S D (reading S D r) c)) nowhere (firstRaising S D (reading S D r) b k)
+      → firstBy (planFrom S D b k) r ≡ onSome raised nowhere (firstRaising S D (reading S D r) b k)
   unfolding planFrom firstBy firstRaising
   first-from b zero = refl
   first-from b (suc k) = first-next b k ∙ go (first-from (suc b) k) (kindAt S D (reading S D r) b) refl
     where
-      go : firstBy (planFrom S D (suc b) k) r ≡ onSome (λ c. at c (kindAt S D (reading S D r) c)) nowhere (firstRaising S D (reading S D r) (suc b) k)
+      go : firstBy (planFrom S D (suc b) k) r ≡ onSome raised nowhere (firstRaising S D (reading S D r) (suc b) k)
           → (j : ℕ) → kindAt S D (reading S D r) b ≡ j
-          → orElse b (kindAt S D (reading S D r) b) (firstBy (planFrom S D (suc b) k) r)
-          ≡ onSome (λ c. at c (kindAt S D (reading S D r) c)) nowhere (orLater b (kindAt S D (reading S D r) b) (firstRaising S D (reading S D r) (suc b) k))
+          → orElse b (kindAt S D (reading S D r) b) (givenAt S D (reading S D r) b) (firstBy (planFrom S D (suc b) k) r)
+          ≡ onSome raised nowhere (orLater b (kindAt S D (reading S D r) b) (firstRaising S D (reading S D r) (suc b) k))
       go later zero q = simp q later
       go later (suc j) q = simp q
 
@@ -93,9 +99,9 @@ module _ (S D : Datatype) (r : List ℕ) where
   unfolding raisedBelow
   plan-raised = simp zero-add at (raised-from 0 (size D))
 
-  -- nowhere if no leaf raises; else the lowest byte whose leaf does, and its kind
+  -- nowhere if no leaf raises; else the lowest byte whose leaf does, its kind, and what was given
   pub plan-first : firstBy (planOf S D) r
-      ≡ onSome (λ b. at b (kindAt S D (reading S D r) b)) nowhere (firstRaising S D (reading S D r) 0 (size D))
+      ≡ onSome (λ b. at b (kindAt S D (reading S D r) b) (givenAt S D (reading S D r) b)) nowhere (firstRaising S D (reading S D r) 0 (size D))
   plan-first = first-from 0 (size D)
 
 -- ---- the entries lie inside their records, between well-formed leaves

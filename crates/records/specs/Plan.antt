@@ -1,6 +1,7 @@
 -- What a call works out once, before its records: the matched leaves in byte order, and one record by them.
 use mathlib.Core.List.{List, [], _∷_}
 use Prim.Native.Nat.{ℕ, zero, suc, _+_, _≤_}
+use Rattle.answer.specs.declared.Given.{Given}
 use Rattle.number.specs.declared.Fitted.{Fitted}
 use Rattle.number.specs.Place.{stored}
 use Rattle.datatype.specs.Datatype.{Leaf, layoutOf, leafSize, Datatype, size}
@@ -40,18 +41,18 @@ unfoldable pub raisedBy : List Entry → List ℕ → ℕ
 raisedBy [] r = 0
 raisedBy (e ∷ es) r = raises (becomes e r .kind) + raisedBy es r
 
--- the first that raises one: its byte of the destination record, and the kind
+-- the first that raises one: its byte of the destination record, the kind, and what was given
 pub data Raised : Type 0 where
   nowhere : Raised
-  at : ℕ → ℕ → Raised
+  at : ℕ → ℕ → Given → Raised
 
-abbrev pub orElse : ℕ → ℕ → Raised → Raised
-orElse b zero later = later
-orElse b (suc kind) later = at b (suc kind)
+abbrev pub orElse : ℕ → ℕ → Given → Raised → Raised
+orElse b zero given later = later
+orElse b (suc kind) given later = at b (suc kind) given
 
 unfoldable pub firstBy : List Entry → List ℕ → Raised
 firstBy [] r = nowhere
-firstBy (e ∷ es) r = orElse (e .to) (becomes e r .kind) (firstBy es r)
+firstBy (e ∷ es) r = orElse (e .to) (becomes e r .kind) (becomes e r .given) (firstBy es r)
 
 -- an entry that lies inside source records of s bytes and destination records of d bytes, between well-formed leaves
 pub record Sound (s d : ℕ) (e : Entry) : Type 0 where

@@ -1,8 +1,11 @@
 -- Document 01, "Paths and conversion": one record. What is read of the source record, and what is made of that and of a background with no other look at the source.
+use mathlib.Core.Bool.{false}
 use mathlib.Core.List.{List}
 use mathlib.Core.Option.{Option, none, some}
 use Prim.Native.Nat.{ℕ, zero, suc, _+_}
 use lib.IntN.{ℤ}
+use Rattle.answer.specs.declared.Given.{Given}
+use Rattle.answer.specs.declared.Given.the-variants.{Whole}
 use Rattle.number.specs.Place.{stored}
 use Rattle.datatype.specs.Datatype.{layoutOf, Datatype, size}
 use Rattle.datatype.specs.Symbols.{onSome}
@@ -33,6 +36,13 @@ convertedRecord S D f background = withLeavesBelow S D f (size D) background
 -- the kind of the exception that the leaf at byte b raises, 0 for none
 unfoldable pub kindAt : Datatype → Datatype → Reading → ℕ → ℕ
 kindAt S D f b = onMatch (λ a x y. onSome (λ z. converted x y z .kind) 0 (f b)) 0 (matchAt S D b)
+
+-- what was given to it; 0 for none
+abbrev pub nothingGiven : Given
+nothingGiven = Whole false 0
+
+unfoldable pub givenAt : Datatype → Datatype → Reading → ℕ → Given
+givenAt S D f b = onMatch (λ a x y. onSome (λ z. converted x y z .given) nothingGiven (f b)) nothingGiven (matchAt S D b)
 
 abbrev pub raises : ℕ → ℕ
 raises zero = 0

@@ -1,4 +1,4 @@
-// Whole calls that are refused with 7 ROOM and 8 STOP; and one of no records, which is done.
+// Whole calls that are refused with 7 ROOM and 8 STOP, which names the number that was given; and one of no records, which is done.
 use convert::convert_copying;
 use convert::convert_in_place;
 use convert::convert_in_place_plain;
@@ -124,6 +124,40 @@ fn case_7() {
     show_bytes(&written);
 }
 
+fn case_8() {
+    show(b"8 stop at the smallest number");
+    let mut written = [0x55u8];
+    let mut table = [7u32; 8192];
+    let a = convert_copying(
+        b"int\t8\tBE\t0\t64\tzero\tzero\tsigned\n",
+        b"int\t1\tLE\t0\t8\tzero\tzero\tunsigned\n",
+        1,
+        1,
+        b"\x80\x00\x00\x00\x00\x00\x00\x00",
+        &mut written,
+        &mut table,
+    );
+    show_answer(a);
+    show_bytes(&written);
+}
+
+fn case_9() {
+    show(b"8 stop at a real");
+    let mut written = [0x55u8];
+    let mut table = [7u32; 8192];
+    let a = convert_copying(
+        b"real\t8\tBE\n",
+        b"int\t1\tLE\t0\t8\tzero\tzero\tunsigned\n",
+        1,
+        1,
+        b"\x40\x04\x00\x00\x00\x00\x00\x00",
+        &mut written,
+        &mut table,
+    );
+    show_answer(a);
+    show_bytes(&written);
+}
+
 fn main() {
     case_1();
     case_2();
@@ -132,4 +166,6 @@ fn main() {
     case_5();
     case_6();
     case_7();
+    case_8();
+    case_9();
 }

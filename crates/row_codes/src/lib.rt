@@ -12,9 +12,9 @@ use easy::at;
 use entry_code::SPAN_COUNT;
 use entry_code::SPAN_LOW;
 use entry_code::SPAN_ROWS;
-use number::Fitted;
 use number::NO_SYMBOL;
 use number::Parts;
+use plans::Coded;
 use row_lookup::row_numbered;
 use table::CLASS;
 use table::ENUM;
@@ -52,25 +52,25 @@ pub fn value_bits(half: &[u32], row: usize, precision: u32) -> u64
     distance
 }
 
-fn all_ones(precision: u32) -> Fitted
+fn all_ones(precision: u32) -> Coded
     requires { ⌜ precision ≤ 64 ⌝ }
     ensures { λ r. ⌜ r ≡ allOnes precision ⌝ }
 {
-    Fitted {
+    Coded {
         raw: ones(precision),
         kind: NO_SYMBOL,
     }
 }
 
 // A row in one word, as significant bits of an enum of this precision.
-pub fn code_bits(half: &[u32], code: usize, precision: u32) -> Fitted
+pub fn code_bits(half: &[u32], code: usize, precision: u32) -> Coded
     requires { ⌜ precision ≤ 64 ⌝ }
     ensures { λ r. ⌜ r ≡ codeBits (now (half .entry)) precision code ⌝ }
 {
     if code == 0 {
         return all_ones(precision);
     }
-    Fitted {
+    Coded {
         raw: value_bits(half, code - 1, precision),
         kind: 0,
     }

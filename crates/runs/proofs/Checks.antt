@@ -10,6 +10,7 @@ use lib.Dec.{leb}
 use lib.ListN.{length}
 use borrow.Author.Tests.{leb-true, le-leb}
 use Rattle.answer.specs.declared.Answer.{Answer}
+use Rattle.answer.specs.declared.Given.{Given}
 use Rattle.answer.specs.declared.Answer.the-variants.{Done, Handling, Table, Source, Destination, Path, Count, Room, Stop, Range, Channel, Full}
 use Rattle.answer.specs.Answer.{numberOf, valuesOf}
 use Rattle.datatype.specs.Datatype.{Datatype, size}
@@ -36,13 +37,13 @@ done-is (Destination line) e = no-number e
 done-is Path e = no-number e
 done-is Count e = no-number e
 done-is Room e = no-number e
-done-is (Stop i at kind) e = no-number e
+done-is (Stop i at kind given) e = no-number e
 done-is Range e = no-number e
 done-is Channel e = no-number e
 done-is Full e = no-number e
 
--- number 8 is STOP, with its three fields
-pub stop-is : (a : Answer) → numberOf a ≡ 8 → a ≡ Stop (valuesOf a .«record») (valuesOf a .at) (valuesOf a .kind)
+-- number 8 is STOP, with its fields
+pub stop-is : (a : Answer) → numberOf a ≡ 8 → (g : Given) × (a ≡ Stop (valuesOf a .«record») (valuesOf a .at) (valuesOf a .kind) g)
 stop-is (Done count) e = absurd (omega (arith, e))
 stop-is Handling e = absurd (omega (arith, e))
 stop-is Table e = absurd (omega (arith, e))
@@ -51,7 +52,7 @@ stop-is (Destination line) e = absurd (omega (arith, e))
 stop-is Path e = absurd (omega (arith, e))
 stop-is Count e = absurd (omega (arith, e))
 stop-is Room e = absurd (omega (arith, e))
-stop-is (Stop i at kind) e = refl
+stop-is (Stop i at kind given) e = (given, refl)
 stop-is Range e = absurd (omega (arith, e))
 stop-is Channel e = absurd (omega (arith, e))
 stop-is Full e = absurd (omega (arith, e))

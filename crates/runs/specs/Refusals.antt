@@ -2,7 +2,9 @@
 use mathlib.Core.List.{List, _∷_}
 use mathlib.Core.Logic.{_⊎_}
 use Prim.Native.Nat.{ℕ, _*_, _<_, max}
+use Rattle.answer.specs.declared.Given.{Given}
 use Rattle.answer.specs.declared.Values.{Values}
+use Rattle.answer.specs.Answer.{givenSign, givenMagnitude}
 use Rattle.datatype.specs.Datatype.{Datatype}
 use Rattle.sheet.specs.FirstFault.{Whole}
 use Rattle.runs.specs.Run.{Form}
@@ -34,13 +36,13 @@ pub data First {Row : Type 0} (Given : Row → Type 0) (row : Row) : List Row �
 -- ---- the fields beside a number: "Unnamed fields are 0."
 
 abbrev pub noField : Values
-noField = record { count = 0; line = 0; «record» = 0; at = 0; kind = 0 }
+noField = record { count = 0; line = 0; «record» = 0; at = 0; kind = 0; given = 0; magnitude = 0 }
 
 abbrev pub onlyCount : ℕ → Values
-onlyCount n = record { count = n; line = 0; «record» = 0; at = 0; kind = 0 }
+onlyCount n = record { count = n; line = 0; «record» = 0; at = 0; kind = 0; given = 0; magnitude = 0 }
 
 abbrev pub onlyLine : ℕ → Values
-onlyLine k = record { count = 0; line = k; «record» = 0; at = 0; kind = 0 }
+onlyLine k = record { count = 0; line = k; «record» = 0; at = 0; kind = 0; given = 0; magnitude = 0 }
 
-abbrev pub onlyPlace : ℕ → ℕ → ℕ → Values
-onlyPlace i b k = record { count = 0; line = 0; «record» = i; at = b; kind = k }
+abbrev pub onlyPlace : ℕ → ℕ → ℕ → Given → Values
+onlyPlace i b k g = record { count = 0; line = 0; «record» = i; at = b; kind = k; given = givenSign g; magnitude = givenMagnitude g }

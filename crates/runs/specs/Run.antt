@@ -12,7 +12,7 @@ use Rattle.datatype.specs.Symbols.{onSome}
 use Rattle.datatype.specs.Paths.{hasPath}
 use Rattle.sheet.specs.Sheet.{Sheet, sheetOf}
 use Rattle.sheet.specs.Sheet.Sheet.{ofType, faultyAt}
-use Rattle.records.specs.Record.{Reading, kindAt, firstRaising}
+use Rattle.records.specs.Record.{Reading, kindAt, givenAt, firstRaising}
 use Rattle.records.specs.Records.{Readings, readings, exceptions, copyResult, inPlaceResult}
 
 -- "Two forms. Copying: a source buffer and a destination buffer, whose own bytes are the background. In place: one buffer and a separate background."
@@ -92,7 +92,7 @@ onChecked f g (passed S D) = f S D
 
 -- STOP at the first raising leaf of record i, if there is one, else what the later records say
 abbrev pub orStop : Datatype → Datatype → ℕ → Reading → Answer → Answer
-orStop S D i f later = onSome (λ b. Stop i b (kindAt S D f b)) later (firstRaising S D f 0 (size D))
+orStop S D i f later = onSome (λ b. Stop i b (kindAt S D f b) (givenAt S D f b)) later (firstRaising S D f 0 (size D))
 
 -- "STOP names the lowest record, and in it the raising leaf whose first byte is lowest." Over the k records from i on
 unfoldable pub stopFrom : Datatype → Datatype → Readings → ℕ → ℕ → Answer
@@ -131,7 +131,7 @@ ifDone (Destination line) new old = old
 ifDone Path new old = old
 ifDone Count new old = old
 ifDone Room new old = old
-ifDone (Stop i at kind) new old = old
+ifDone (Stop i at kind given) new old = old
 ifDone Range new old = old
 ifDone Channel new old = old
 ifDone Full new old = old
@@ -159,7 +159,7 @@ tableAfter (Destination line) table = cleared table
 tableAfter Path table = cleared table
 tableAfter Count table = cleared table
 tableAfter Room table = cleared table
-tableAfter (Stop i at kind) table = cleared table
+tableAfter (Stop i at kind given) table = cleared table
 tableAfter Range table = cleared table
 tableAfter Channel table = cleared table
 tableAfter Full table = cleared table

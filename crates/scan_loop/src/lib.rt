@@ -25,7 +25,7 @@ pub fn first_exception(
 {
     let mut i: usize = 0;
     while i < count {
-        if let Raising::At(b, kind) = first_raising(
+        if let Raising::At(b, kind, given) = first_raising(
             &src[i * source_size..],
             plan,
             entries,
@@ -33,7 +33,7 @@ pub fn first_exception(
             destination_half,
             words,
         ) {
-            return Stop::At(i as u32, b, kind);
+            return Stop::At(i as u32, b, kind, given);
         }
         i += 1;
     }

@@ -1,4 +1,4 @@
-// How the programs of whole calls print one: a name, the answer's number, its count, line, record, byte and kind, and the bytes of the buffer that was written.
+// How the programs of whole calls print one: a name, the answer's number, its count, line, record, byte and kind, the number that was given, and the bytes of the buffer that was written.
 use answer::Answer;
 use answer::number_of;
 use answer::values_of;
@@ -13,7 +13,7 @@ fn show_number(n: u64) {
     io::print_decimal(STDOUT_FILENO, n);
 }
 
-// An answer's number, count, line, record, byte and kind.
+// An answer's number, count, line, record, byte and kind, and of the number that was given which it is and its magnitude or bits.
 pub fn show_answer(a: Answer) {
     let v = values_of(a);
     show_number(number_of(a) as u64);
@@ -22,6 +22,8 @@ pub fn show_answer(a: Answer) {
     show_number(v.record as u64);
     show_number(v.at as u64);
     show_number(v.kind as u64);
+    show_number(v.given as u64);
+    show_number(v.magnitude);
 }
 
 fn show_byte(b: u8, first: bool) {

@@ -25,8 +25,11 @@ cast-t8 c = search needs
 cast-t9 : tie.Need-cast-t9
 cast-t9 c = search needs
 
+cast-t10 : tie.Need-cast-t10
+cast-t10 c = search needs
+
 returns : tie.Need-returns
-returns c = record { number = search needs; written = rw (c .before .before .before .before .before .before .number-of .ensures, c .before .before .before .before .before .values-of .ensures) refl }
+returns c = record { number = search needs; written = rw (c .before .before .before .before .before .before .before .number-of .ensures, c .before .before .before .before .before .before .values-of .ensures) refl }
 
 pub give-spec : {M : Type 1} → statement M
 give-spec =
@@ -39,4 +42,5 @@ give-spec =
     cast-t7
     cast-t8
     cast-t9
+    cast-t10
     returns)

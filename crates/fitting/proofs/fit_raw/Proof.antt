@@ -13,7 +13,7 @@ use Rattle.fitting.proofs.fit_raw.Tie as tie
 
 returns : tie.Need-returns
 returns c =
-    rw (c .before .before .before .if1 .taken, c .before .before .if2 .taken) (c .widened .ensures)
+    rw (c .before .before .before .before .if1 .taken, c .before .before .before .if2 .taken, c .given-raw .ensures) (c .before .widened .ensures)
 
 returns-2 : tie.Need-returns-2
 returns-2 c =
@@ -48,6 +48,7 @@ pub fit-raw-spec : {M : Type 1} → statement M
 fit-raw-spec =
     tie.close
     (tie.spec
+    (λ c κs. search needs)
     (λ c κs. search needs)
     returns
     (λ c κs. search needs)

@@ -30,11 +30,19 @@ entry-kind-requires c κs =
     let l = c .before .before .before in
     (_, entry-ready _ _ _ _ _ _ _ (l .before .before .before .before .before .before .pre .1) (l .loop .i) (omega arith) _ (c .before .entry .ensures .0))
 
-returns : tie.Need-returns Inv-loop μ-loop
-returns c =
+given-at-requires : tie.Need-given-at-requires Inv-loop μ-loop
+given-at-requires c κs =
     let e = c .before .before .before in
     let l = e .before .before in
-    λ d p. first-found _ _ _ _ _ _ _ p _ (l .loop .i) _ (omega arith) (l .loop .inv .1 d p) (e .entry .ensures .0) (c .before .entry-kind .ensures) (c .if1 .taken)
+    let h = entry-ready _ _ _ _ _ _ _ (l .before .before .before .before .before .before .pre .1) (l .loop .i) (omega arith) _ (e .entry .ensures .0) in
+    ((h .pair .sourceText, h .pair .source), h .read)
+
+returns : tie.Need-returns Inv-loop μ-loop
+returns c =
+    let i = c .before in
+    let e = i .before .before .before in
+    let l = e .before .before in
+    λ d p. first-found _ _ _ _ _ _ _ p _ (l .loop .i) _ (omega arith) (l .loop .inv .1 d p) (e .entry .ensures .0) (i .before .entry-kind .ensures) (i .if1 .taken) (c .given-at .ensures)
 
 loop-again : tie.Need-loop-again Inv-loop μ-loop
 loop-again c =
@@ -55,6 +63,7 @@ first-raising-spec =
     entry-requires
     cast-b
     entry-kind-requires
+    given-at-requires
     returns
     (λ c. omega arith)
     (λ c. omega arith)

@@ -1,29 +1,21 @@
 -- `real_leaf::real_bits` meets its contract: by the class of the source. Assumes nothing.
-use mathlib.Core.Path.{_≡_, sym, ap, _∙_}
+use mathlib.Core.Path.{_≡_, _∙_}
 use mathlib.Core.Bool.{Bool, true, false, cond}
 use mathlib.Core.List.{List}
 use Prim.Native.Nat.{ℕ, _^_, _<_}
 use lib.IntN.{ℤ}
 use denote.Ref.{now}
 use borrow.Author.Needs.{needs}
-use borrow.Author.Tests.{eq-eqb, ne-eqb}
 use Rattle.layout.specs.declared.Layout.{Layout}
 use Rattle.number.specs.declared.Fitted.{Fitted}
 use Rattle.number.specs.Number.{valued, numberAt}
 use Rattle.number.specs.Place.{rawAt}
 use Rattle.reals.specs.Convert.{intToReal, realToInt}
-use Rattle.table.specs.Table.{classWord, layoutAt}
-use Rattle.table.specs.Words.{Reads}
+use Rattle.table.specs.Table.{layoutAt}
 use Rattle.plans.specs.PlanWords.{isReal}
+use Rattle.plans.proofs.LeafSteps.{class-real, class-other}
 use Rattle.real_leaf.proofs.real_bits.Statement.{statement}
 use Rattle.real_leaf.proofs.real_bits.Tie as tie
-
-module _ (ws : List ℕ) (s : ℕ) {class : ℕ} (rc : Reads (classWord ws s) class) where
-  from-real : class ≡ 5 → isReal ws s ≡ true
-  from-real e = eq-eqb _ 5 (sym (rc .is) ∙ e)
-
-  to-real : (class ≡ 5 → ⊥) → isReal ws s ≡ false
-  to-real e = ne-eqb _ 5 (λ i. e (rc .is ∙ i))
 
 module _ (ws src : List ℕ) (s a : ℕ) (m : Layout) {l : Layout} {raw : ℕ} (el : l ≡ layoutAt ws s) (er : raw ≡ rawAt l a src) where
   int-is : {r : Fitted} → isReal ws s ≡ true → r ≡ realToInt m raw
@@ -43,7 +35,7 @@ returns : tie.Need-returns
 returns c =
     let t = c .before .before in
     let r = t .before in
-    let is = from-real _ _ (t .type-word .ensures) (c .before .if1 .taken) in
+    let is = class-real _ _ (t .type-word .ensures) (c .before .if1 .taken) in
     let a = r .before .before .before .before .args in
     (int-is (now (a .source-half)) (now (a .src)) (a .source-type) (a .source-byte) (a .m) (r .before .layout-at .ensures .0) (r .raw-at .ensures .0) is (c .to-int .ensures .0), c .to-int .ensures .1)
 
@@ -61,7 +53,7 @@ returns-2 c =
     let t = i .before in
     let r = t .before in
     let l = r .before in
-    let is = to-real _ _ (t .type-word .ensures) (i .if1 .left) in
+    let is = class-other _ _ (t .type-word .ensures) (i .if1 .left) in
     let x = l .before .before .before in
     let a = x .args in
     (real-is (now (a .source-half)) (now (a .src)) (a .source-type) (a .source-byte) (a .m) (l .layout-at .ensures .0) (r .raw-at .ensures .0) is (n .number-of .ensures) (c .to-real .ensures .0), rw (x .pre .3 is) (c .to-real .ensures .1))

@@ -45,7 +45,7 @@ returns c =
     let a = c .before .before .before .before .before .before .before .before .before .before .before .before .args in
     let l = c .before .before .before .before .before .before .loop in
     let r = c .before .before .before .first-raising in
-    λ d j. stop-found (planOf (j .source) (j .destination)) (a .source-size) (a .src .now) (a .count) (l .i) _ _ (r .result) (omega arith) (l .inv .1 d j) (job-scan j (a .src .now) (l .i * a .source-size) (r .result) (omega (arith, row-within (c .before .before .before .before .before .before .before .before .before .before .before .before .args .source-size) (c .before .before .before .before .before .loop-test .taken))) (r .ensures)) (c .before .b .given .1)
+    λ d j. stop-found (planOf (j .source) (j .destination)) (a .source-size) (a .src .now) (a .count) (l .i) _ _ _ (r .result) (omega arith) (l .inv .1 d j) (job-scan j (a .src .now) (l .i * a .source-size) (r .result) (omega (arith, row-within (c .before .before .before .before .before .before .before .before .before .before .before .before .args .source-size) (c .before .before .before .before .before .loop-test .taken))) (r .ensures)) (c .before .b .given .1)
 
 loop-again : tie.Need-loop-again Inv-loop μ-loop
 loop-again c =

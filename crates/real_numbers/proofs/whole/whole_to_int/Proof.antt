@@ -19,7 +19,7 @@ noted-requires c κs = search needs
 returns : tie.Need-returns
 returns c =
     let f = c .before .before .fit-parts .ensures in
-    noted-whole _ _ _ _ (c .before .before .before .before .args .l) _ _ (c .noted .ensures) (c .before .loses .ensures) (f .0)
+    noted-whole _ _ _ _ _ (c .before .before .before .before .args .l) _ _ (c .noted .ensures) (c .before .loses .ensures) (f .0)
     (c .before .before .before .signed-number .ensures) (f .1)
 
 pub whole-to-int-spec : {M : Type 1} → statement M
