@@ -268,6 +268,10 @@ def check_conversions(page, text):
         expect((stopped.kind if stopped else "none") == (kind if kind == "none" else number(kind)), page, f"{given} from {source} to {destination}: {stopped}")
         count = convert_copying(sheet(source), sheet(destination), 1, Handling.CLAMP, data(given), out)
         expect(out == data(wanted) and count == (kind != "none"), page, f"{given} from {source} to {destination} gives {out.hex(' ')}, count {count}")
+    for source, destination, given, wanted, words in rows(page, text, "| From | To | Bytes | Number | Words 6 and 7 |"):
+        stopped = refusal(convert_copying, sheet(source), sheet(destination), 1, Handling.STOP, data(given), bytearray(8))
+        named = stopped and (repr(stopped.given), stopped.answer[6:]) == (wanted.replace("−", "-"), tuple(int(word, 0) for word in words.split(", ")))
+        expect(named, page, f"{given} from {source} to {destination}: {stopped}")
     for source, destination, given, wanted in rows(page, text, "| From | To | Buffer | After |"):
         buffer = bytearray(data(given))
         convert_in_place(sheet(source), sheet(destination), 2, Handling.STOP, buffer, bytes(2 * record_size(sheet(destination))))

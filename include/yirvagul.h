@@ -62,8 +62,8 @@ enum {
      * background for count * D, the in-place buffer or the log for count * max(S, D), the report's memory for its words, the list, or the report's output.
      * Lend a longer one. */
     YIRVAGUL_ROOM = 7,
-    /* Handling is stop, and a number does not fit: the first such leaf is `at` bytes into destination record `record`, and `kind` says why. Give the
-     * destination a layout there that holds it, or convert with YIRVAGUL_CLAMP. */
+    /* Handling is stop, and a number does not fit: the first such leaf is `at` bytes into destination record `record`, `kind` says why, and `given` and
+     * `magnitude` are the number. Give the destination a layout there that holds it, or convert with YIRVAGUL_CLAMP. */
     YIRVAGUL_STOP = 8,
     /* A setter's argument or result is outside its rule, or the layout already was. Pass a valid layout and an argument within the rule. */
     YIRVAGUL_RANGE = 9,
@@ -76,13 +76,23 @@ enum {
 
 /* The answer's eight words. Each call that reads sheets writes all of them; a word that the number does not name is 0. */
 enum {
-    YIRVAGUL_ANSWER_NUMBER = 0, /* what the call returned */
-    YIRVAGUL_ANSWER_COUNT = 1,  /* done: how many leaves raised an exception; of the list or the report, its length in bytes; of the record size, that size
-                                   in bytes */
-    YIRVAGUL_ANSWER_LINE = 2,   /* SOURCE, DESTINATION: the first faulty line */
-    YIRVAGUL_ANSWER_RECORD = 3, /* STOP: the record, from 0 */
-    YIRVAGUL_ANSWER_AT = 4,     /* STOP: the leaf's first byte in its destination record, from 0 */
-    YIRVAGUL_ANSWER_KIND = 5    /* STOP: the kind of exception; words 6 and 7 are for later, and 0 */
+    YIRVAGUL_ANSWER_NUMBER = 0,   /* what the call returned */
+    YIRVAGUL_ANSWER_COUNT = 1,    /* done: how many leaves raised an exception; of the list or the report, its length in bytes; of the record size, that
+                                      size in bytes */
+    YIRVAGUL_ANSWER_LINE = 2,     /* SOURCE, DESTINATION: the first faulty line */
+    YIRVAGUL_ANSWER_RECORD = 3,   /* STOP: the record, from 0 */
+    YIRVAGUL_ANSWER_AT = 4,       /* STOP: the leaf's first byte in its destination record, from 0 */
+    YIRVAGUL_ANSWER_KIND = 5,     /* STOP: the kind of exception */
+    YIRVAGUL_ANSWER_GIVEN = 6,    /* STOP: what the magnitude is, YIRVAGUL_GIVEN_PLUS, _MINUS or _REAL */
+    YIRVAGUL_ANSWER_MAGNITUDE = 7 /* STOP: the number that the leaf was given, without its sign; or the 64 bits of a real */
+};
+
+/* STOP carries the number as it stood in the source leaf, before it was clamped: an enum's is the source's number, not the destination's. Where the source
+ * leaf is a real it is given as its 64 bits, whatever it goes to; everywhere else, also on the way to a real, as a whole number from -2^63 to 2^64 - 1. */
+enum {
+    YIRVAGUL_GIVEN_PLUS = 0,  /* the number is the magnitude: 0 to 2^64 - 1 */
+    YIRVAGUL_GIVEN_MINUS = 1, /* it is minus the magnitude: -2^63 to -1 */
+    YIRVAGUL_GIVEN_REAL = 2   /* the magnitude is the 64 bits of a double, those of a not-a-number too */
 };
 
 /* Kinds of exception, and what clamping writes. A leaf raises at most one. */

@@ -1,4 +1,5 @@
 /* Two records of a rig's log: three pressures of 12 bits and a valve, converted for a customer who wants whole bytes. */
+#include <inttypes.h>
 #include <stdio.h>
 
 #include "yirvagul.h"
@@ -35,7 +36,8 @@ int main(void) {
         uint32_t number = yirvagul_convert_copying((const uint8_t *)rig, sizeof rig - 1, (const uint8_t *)customer, sizeof customer - 1, 2,
                                                    (uint32_t)handling, log, sizeof log, out, sizeof out, table, YIRVAGUL_TABLE_WORDS, answer);
         if (number == YIRVAGUL_STOP)
-            printf("stopped at record %d, byte %d\n", (int)answer[YIRVAGUL_ANSWER_RECORD], (int)answer[YIRVAGUL_ANSWER_AT]);
+            printf("stopped at record %d, byte %d by the number %s%" PRIu64 "\n", (int)answer[YIRVAGUL_ANSWER_RECORD], (int)answer[YIRVAGUL_ANSWER_AT],
+                   answer[YIRVAGUL_ANSWER_GIVEN] == YIRVAGUL_GIVEN_MINUS ? "-" : "", answer[YIRVAGUL_ANSWER_MAGNITUDE]);
         else if (number != YIRVAGUL_DONE) {
             fprintf(stderr, "%s\n", yirvagul_name(number));
             return 1;

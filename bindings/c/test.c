@@ -9,6 +9,7 @@
 #define PAIR "int\t2\tBE\t0\t16\tzero\tzero\tunsigned\n"
 #define BITS "bits\t1\tLE\t0\t8\tzero\tzero\n"
 #define WIDEST "int\t8\tBE\t0\t64\tzero\tzero\tunsigned\n"
+#define SIGNED_WIDEST "int\t8\tBE\t0\t64\tzero\tzero\tsigned\n"
 #define REAL "real\t8\tBE\n"
 
 static uint32_t table[YIRVAGUL_TABLE_WORDS + 1];
@@ -22,20 +23,34 @@ static void expect(int holds, const char *what) {
     }
 }
 
-/* The answer is these words, and the call returned the first of them. */
+static void expect_words(uint32_t returned, const uint64_t wanted[8], const char *what) {
+    expect(returned == wanted[YIRVAGUL_ANSWER_NUMBER] && memcmp(wanted, answer, sizeof answer) == 0, what);
+    memset(answer, 0xee, sizeof answer);
+}
+
+/* The answer, which is no STOP, is these words, and the call returned the first of them. */
 static void expect_answer(uint32_t returned, uint64_t number, uint64_t count, uint64_t line, uint64_t record, uint64_t at, uint64_t kind,
                           const char *what) {
-    uint64_t wanted[8];
-    wanted[0] = number;
-    wanted[1] = count;
-    wanted[2] = line;
-    wanted[3] = record;
-    wanted[4] = at;
-    wanted[5] = kind;
-    wanted[6] = 0;
-    wanted[7] = 0;
-    expect(returned == number && memcmp(wanted, answer, sizeof wanted) == 0, what);
-    memset(answer, 0xee, sizeof answer);
+    uint64_t wanted[8] = {0};
+    wanted[YIRVAGUL_ANSWER_NUMBER] = number;
+    wanted[YIRVAGUL_ANSWER_COUNT] = count;
+    wanted[YIRVAGUL_ANSWER_LINE] = line;
+    wanted[YIRVAGUL_ANSWER_RECORD] = record;
+    wanted[YIRVAGUL_ANSWER_AT] = at;
+    wanted[YIRVAGUL_ANSWER_KIND] = kind;
+    expect_words(returned, wanted, what);
+}
+
+/* The answer is STOP, for this number. */
+static void expect_stop(uint32_t returned, uint64_t record, uint64_t at, uint64_t kind, uint64_t given, uint64_t magnitude, const char *what) {
+    uint64_t wanted[8] = {0};
+    wanted[YIRVAGUL_ANSWER_NUMBER] = YIRVAGUL_STOP;
+    wanted[YIRVAGUL_ANSWER_RECORD] = record;
+    wanted[YIRVAGUL_ANSWER_AT] = at;
+    wanted[YIRVAGUL_ANSWER_KIND] = kind;
+    wanted[YIRVAGUL_ANSWER_GIVEN] = given;
+    wanted[YIRVAGUL_ANSWER_MAGNITUDE] = magnitude;
+    expect_words(returned, wanted, what);
 }
 
 static void expect_bytes(const uint8_t *found, const char *wanted, size_t len, const char *what) { expect(memcmp(found, wanted, len) == 0, what); }
@@ -57,7 +72,7 @@ static void test_copying(void) {
     expect_answer(copying(BYTE, BITS, 2, 0, "\xff\x05", 2, out, 3), 5, 0, 0, 0, 0, 0, "PATH");
     expect_answer(copying(BYTE, SIGNED_BYTE, 65537, 0, "\xff\x05", 2, out, 3), 6, 0, 0, 0, 0, 0, "COUNT");
     expect_answer(copying(BYTE, SIGNED_BYTE, 3, 0, "\xff\x05", 2, out, 3), 7, 0, 0, 0, 0, 0, "ROOM");
-    expect_answer(copying(BYTE, SIGNED_BYTE, 2, YIRVAGUL_STOP_FIRST, "\x05\xff", 2, out, 3), 8, 0, 0, 1, 0, YIRVAGUL_ABOVE, "STOP");
+    expect_stop(copying(BYTE, SIGNED_BYTE, 2, YIRVAGUL_STOP_FIRST, "\x05\xff", 2, out, 3), 1, 0, YIRVAGUL_ABOVE, YIRVAGUL_GIVEN_PLUS, 255, "STOP");
     expect_bytes(out, "\x77\x77\x77", 3, "a refusal leaves the destination");
     expect_answer(yirvagul_convert_copying_plain((const uint8_t *)SIGNED_BYTE, strlen(SIGNED_BYTE), (const uint8_t *)PAIR, strlen(PAIR), 1,
                                                  (const uint8_t *)"\xff", 1, out, 3, table, YIRVAGUL_TABLE_WORDS, answer),
@@ -81,10 +96,22 @@ static void test_in_place(void) {
                   7, 0, 0, 0, 0, 0, "ROOM, in place");
 }
 
+/* The 64 bits of a real, from its bytes in big-endian order. */
+static uint64_t bits_of(const char *real) {
+    uint64_t bits = 0;
+    int i;
+    for (i = 0; i < 8; i++) bits = bits << 8 | (uint8_t)real[i];
+    return bits;
+}
+
 /* One real, to a byte: what clamping writes, and the kind that stops it (0: none). */
 static void expect_byte(const char *real, uint8_t wanted, uint64_t kind, const char *what) {
     uint8_t out[1] = {0x77};
-    expect_answer(copying(REAL, BYTE, 1, YIRVAGUL_STOP_FIRST, real, 8, out, 1), kind ? 8 : 0, 0, 0, 0, 0, kind, what);
+    uint32_t returned = copying(REAL, BYTE, 1, YIRVAGUL_STOP_FIRST, real, 8, out, 1);
+    if (kind)
+        expect_stop(returned, 0, 0, kind, YIRVAGUL_GIVEN_REAL, bits_of(real), what);
+    else
+        expect_answer(returned, YIRVAGUL_DONE, 0, 0, 0, 0, 0, what);
     expect(out[0] == (kind ? 0x77 : wanted), what);
     expect_answer(copying(REAL, BYTE, 1, YIRVAGUL_CLAMP, real, 8, out, 1), 0, kind ? 1 : 0, 0, 0, 0, 0, what);
     expect(out[0] == wanted, what);
@@ -104,7 +131,8 @@ static void test_reals(void) {
     expect_byte("\xff\xf0\0\0\0\0\0\1", 0, YIRVAGUL_NOT_A_NUMBER, "a signalling not-a-number");
     expect_answer(copying(BYTE, REAL, 1, YIRVAGUL_STOP_FIRST, "\xff", 1, out, 8), 0, 0, 0, 0, 0, 0, "an int to a real");
     expect_bytes(out, "\x40\x6f\xe0\0\0\0\0\0", 8, "255 as a double");
-    expect_answer(copying(WIDEST, REAL, 1, YIRVAGUL_STOP_FIRST, "\0\x20\0\0\0\0\0\1", 8, out, 8), 8, 0, 0, 0, 0, YIRVAGUL_ROUNDED, "2^53 + 1");
+    expect_stop(copying(WIDEST, REAL, 1, YIRVAGUL_STOP_FIRST, "\0\x20\0\0\0\0\0\1", 8, out, 8), 0, 0, YIRVAGUL_ROUNDED, YIRVAGUL_GIVEN_PLUS,
+                ((uint64_t)1 << 53) + 1, "2^53 + 1");
     expect_answer(copying(WIDEST, REAL, 1, YIRVAGUL_CLAMP, "\0\x20\0\0\0\0\0\3", 8, out, 8), 0, 1, 0, 0, 0, 0, "2^53 + 3, clamped");
     expect_bytes(out, "\x43\x40\0\0\0\0\0\2", 8, "a tie goes to the even double");
     expect_answer(copying(REAL, "real\t8\tLE\n", 1, YIRVAGUL_STOP_FIRST, "\xff\xf0\0\0\0\0\x12\x34", 8, out, 8), 0, 0, 0, 0, 0, 0,
@@ -112,6 +140,35 @@ static void test_reals(void) {
     expect_bytes(out, "\x34\x12\0\0\0\0\xf0\xff", 8, "all 64 bits, of a signalling not-a-number too");
     expect_answer(copying(REAL, BITS, 1, 0, "\0\0\0\0\0\0\0\0", 8, out, 8), 5, 0, 0, 0, 0, 0, "PATH, a real to bits");
     expect_answer(copying("real\t4\tBE\n", BYTE, 1, 0, "\0\0\0\0", 4, out, 8), 3, 0, 1, 0, 0, 0, "SOURCE, a real of 4 bytes");
+}
+
+/* The number that a STOP carries is the one of the source leaf: not the clamped one, and of an enum not the destination's. */
+static void test_given(void) {
+    static const char lowest[] = "\x80\0\0\0\0\0\0", most[] = "\xff\xff\xff\xff\xff\xff\xff\xff";
+    static const char valve[] = SIGNED_BYTE "enum\t0\nvalue\topen\t0\nvalue\tajar\t9\nvalue\tshut\t-2\n";
+    static const char other[] = BYTE "enum\t0\nvalue\tshut\t9\nvalue\tlost\t7\nvalue\topen\t254\n";
+    static const char boost[] = PAIR "array\t0\t3\ncomp\t6\nmember\tboost\t0\t1\n", bytes[] = BYTE "array\t0\t3\ncomp\t4\nmember\tboost\t1\t1\n";
+    const uint64_t high = (uint64_t)1 << 63;
+    uint8_t out[16], buffer[8];
+    memset(out, 0x77, sizeof out);
+    expect_stop(copying(SIGNED_WIDEST, SIGNED_BYTE, 1, 1, lowest, 8, out, 8), 0, 0, YIRVAGUL_BELOW, YIRVAGUL_GIVEN_MINUS, high, "-2^63");
+    expect_stop(copying(SIGNED_WIDEST, WIDEST, 1, 1, most, 8, out, 8), 0, 0, YIRVAGUL_BELOW, YIRVAGUL_GIVEN_MINUS, 1, "-1");
+    expect_stop(copying(WIDEST, SIGNED_WIDEST, 1, 1, lowest, 8, out, 8), 0, 0, YIRVAGUL_ABOVE, YIRVAGUL_GIVEN_PLUS, high, "2^63");
+    expect_stop(copying(WIDEST, SIGNED_WIDEST, 1, 1, most, 8, out, 8), 0, 0, YIRVAGUL_ABOVE, YIRVAGUL_GIVEN_PLUS, UINT64_MAX, "2^64 - 1");
+    expect_stop(copying(WIDEST, REAL, 1, 1, most, 8, out, 8), 0, 0, YIRVAGUL_ROUNDED, YIRVAGUL_GIVEN_PLUS, UINT64_MAX, "2^64 - 1, to a real");
+    expect_stop(copying(SIGNED_WIDEST, REAL, 1, 1, "\x80\0\0\0\0\0\0\1", 8, out, 8), 0, 0, YIRVAGUL_ROUNDED, YIRVAGUL_GIVEN_MINUS, high - 1,
+                "-2^63 + 1, to a real");
+    expect_stop(copying(valve, other, 2, 1, "\0\7", 2, out, 8), 1, 0, YIRVAGUL_NO_SYMBOL, YIRVAGUL_GIVEN_PLUS, 7, "a number without a symbol");
+    expect_stop(copying(valve, other, 2, 1, "\xfe\x80", 2, out, 8), 1, 0, YIRVAGUL_NO_SYMBOL, YIRVAGUL_GIVEN_MINUS, 128, "a negative one");
+    expect_stop(copying(valve, other, 1, 1, "\x09", 1, out, 8), 0, 0, YIRVAGUL_NO_SYMBOL, YIRVAGUL_GIVEN_PLUS, 9, "a symbol that is not there");
+    expect_stop(copying(boost, bytes, 2, 1, "\0\1\0\2\0\3\0\4\x0f\xff\x01\0", 12, out, 8), 1, 2, YIRVAGUL_ABOVE, YIRVAGUL_GIVEN_PLUS, 4095,
+                "the first of two in a record");
+    expect(out[0] == 0x77 && memcmp(out, out + 1, sizeof out - 1) == 0, "STOP leaves the destination");
+    memcpy(buffer, lowest, 8);
+    expect_stop(yirvagul_convert_in_place((const uint8_t *)SIGNED_WIDEST, strlen(SIGNED_WIDEST), (const uint8_t *)BYTE, strlen(BYTE), 1, YIRVAGUL_STOP_FIRST,
+                                          buffer, 8, out, 1, table, YIRVAGUL_TABLE_WORDS, answer),
+                0, 0, YIRVAGUL_BELOW, YIRVAGUL_GIVEN_MINUS, high, "-2^63, in place");
+    expect(memcmp(buffer, lowest, 8) == 0, "STOP leaves the buffer");
 }
 
 /* ---- the report */
@@ -363,6 +420,7 @@ int main(void) {
     test_copying();
     test_in_place();
     test_reals();
+    test_given();
     test_report();
     test_largest_report();
     test_list();

@@ -36,7 +36,9 @@ fn long(odd: &[usize]) -> Vec<u8> {
     log
 }
 
-const STOP: &str = "the number has no symbol, or its symbol is not in the destination: complete the enums, or clamp\n";
+const STOP: &str =
+    "yirvagul: long.log: STOP (8): the number 7 for byte 0 of record 70000, member `valve`, \
+    has no symbol, or its symbol is not in the destination: complete the enums, or clamp\n";
 
 #[test]
 fn the_example() {
@@ -74,18 +76,47 @@ fn a_stop_names_the_first_and_leaves_the_output() {
     for words in ["", "--stop", "--jobs 2", "--jobs 5 --stop"] {
         folder
             .run(&format!("{SHEETS} long.log out.log {words}"))
-            .said(
-                3,
-                &format!("yirvagul: long.log: STOP (8): record 70000, `valve` at byte 0: {STOP}"),
-            );
-        folder.run(&format!("{SHEETS} long.log - {words}")).said(
-            3,
-            &format!("yirvagul: long.log: STOP (8): record 70000, `valve` at byte 0: {STOP}"),
-        );
+            .said(3, STOP);
+        folder
+            .run(&format!("{SHEETS} long.log - {words}"))
+            .said(3, STOP);
     }
     assert_eq!(folder.read("out.log"), b"as it was");
     folder.run(&format!("{SHEETS} long.log new.log"));
     assert_eq!(folder.others(), ["long.log", "out.log"]);
+}
+
+#[test]
+fn a_stop_says_the_number() {
+    let folder = Folder::new("number");
+    folder.write("real.sheet", b"real\t8\tBE\ncomp\t8\nmember\toil\t0\t0\n");
+    folder.write(
+        "int.sheet",
+        b"int\t8\tBE\t0\t64\tzero\tzero\tsigned\ncomp\t8\nmember\toil\t0\t0\n",
+    );
+    for (sheets, bits, said) in [
+        (
+            "real.sheet int.sheet",
+            0x7ff8_0000_0000_0001,
+            "the real NaN (0x7ff8000000000001)",
+        ),
+        (
+            "real.sheet int.sheet",
+            (-1.5_f64).to_bits(),
+            "the real -1.5",
+        ),
+        (
+            "int.sheet real.sheet",
+            (1 << 63) + 1,
+            "the number -9223372036854775807",
+        ),
+    ] {
+        folder.write("one.log", &bits.to_be_bytes());
+        let ran = folder.run(&format!("convert {sheets} one.log out.log"));
+        let start =
+            format!("yirvagul: one.log: STOP (8): {said} for byte 0 of record 0, member `oil`, ");
+        assert!(ran.status == 3 && ran.error.starts_with(&start), "{ran:?}");
+    }
 }
 
 #[test]
@@ -110,7 +141,7 @@ fn pressures_as_doubles_and_back() {
     let back = "convert doubles.sheet customer.sheet loose.log back.log";
     folder.run(back).said(
         3,
-        "yirvagul: loose.log: STOP (8): record 7, `boost[1]` at byte 3: the real is not-a-number (NaN), which no int holds: make the destination a real, or clamp\n",
+        "yirvagul: loose.log: STOP (8): the real NaN (0x7ff8000000000000) for byte 3 of record 7, member `boost[1]`, is not-a-number, which no int holds: make the destination a real, or clamp\n",
     );
     folder
         .run(&format!("{back} --clamp"))

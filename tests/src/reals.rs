@@ -7,8 +7,8 @@ use crate::sheet;
 
 pub const REAL_BE: &str = "real\t8\tBE\n";
 pub const REAL_LE: &str = "real\t8\tLE\n";
-const UNSIGNED_64: &str = "int\t8\tBE\t0\t64\tzero\tzero\tunsigned\n";
-const SIGNED_64: &str = "int\t8\tBE\t0\t64\tzero\tzero\tsigned\n";
+pub const UNSIGNED_64: &str = "int\t8\tBE\t0\t64\tzero\tzero\tunsigned\n";
+pub const SIGNED_64: &str = "int\t8\tBE\t0\t64\tzero\tzero\tsigned\n";
 const BACK: &str = "55 55 55 55 55 55 55 55";
 
 #[test]

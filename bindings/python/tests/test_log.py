@@ -153,8 +153,8 @@ class SmallParts(unittest.TestCase):
         self.each(data, 200, run)
 
     def stopped(self, error, record):
-        self.assertEqual((error.number, error.record, error.at, error.kind), (Number.STOP, record, 0, Kind.NO_SYMBOL))
-        self.assertTrue(str(error).startswith(f"STOP (8): record {record}, `valve` at byte 0: "), error)
+        self.assertEqual((error.number, error.record, error.at, error.kind, error.given), (Number.STOP, record, 0, Kind.NO_SYMBOL, 7))
+        self.assertTrue(str(error).startswith(f"STOP (8): the number 7 for byte 0 of record {record}, member `valve`, "), error)
 
     def uneven(self, error, extra):
         self.assertIs(type(error), ValueError)

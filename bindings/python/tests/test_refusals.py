@@ -12,7 +12,18 @@ from common import BITS, BYTE, CUSTOMER, PAIR, REAL, RIG, SIGNED
 from yirvagul import Class, Handling, Kind, Layout, Number, Order, Pad, Refusal, Report, Short, Sign, _explain, _library
 
 WIDE = "int\t8\tLE\t0\t33\tzero\tzero\tsigned\narray\t0\t2\ncomp\t16\nmember\toil\t0\t1\n"
+LONG = "int\t8\tBE\t0\t64\tzero\tzero\tunsigned\n"
+SIGNED_LONG = "int\t8\tBE\t0\t64\tzero\tzero\tsigned\n"
 LOG = bytes.fromhex("06 40 7d 00 ff f0 00 00  00 00 00 10 00 20 00 07")
+
+
+def _bits(real):
+    """The 64 bits of a double."""
+    return struct.unpack("<Q", struct.pack("<d", real))[0]
+
+
+def _double(bits):
+    return struct.unpack("<d", struct.pack("<Q", bits))[0]
 
 
 def _raw(handling, words):
@@ -74,14 +85,15 @@ WORDS = {
     Number.COUNT: "COUNT (6): 65,537 records, more than 65,536, in one call: convert them with convert_log, or in parts",
     Number.ROOM: "ROOM (7): the source is too short: it holds 16 bytes and needs 24; "
     "the destination is too short: it holds 14 bytes and needs 21: lend longer ones",
-    Number.STOP: "STOP (8): record 1, `valve` at byte 0: "
-    "the number has no symbol, or its symbol is not in the destination: complete the enums, or clamp",
+    Number.STOP: "STOP (8): the number 7 for byte 0 of record 1, member `valve`, "
+    "has no symbol, or its symbol is not in the destination: complete the enums, or clamp",
     Number.CHANNEL: "CHANNEL (10): `oil[0]` has 33 bits, and a report takes ints of at most 32: narrow it in the reader's sheet, or leave it out",
     Number.FULL: "FULL (11): the report would have 1,048,577 records or more, and it takes 1,048,576: begin a new report",
     Number.RANGE: "RANGE (9): offset 53 and precision 12 do not fit 8 bytes: keep the offset within 0 to 52",
 }
 
-FIELDS = ("number", "name", "sheet", "line", "text", "rule", "member", "count", "short", "record", "at", "kind", "precision", "answer", "args")
+FIELDS = ("number", "name", "sheet", "line", "text", "rule", "member", "count", "short")
+FIELDS += ("record", "at", "kind", "given", "given_bits", "precision", "answer", "args")
 
 
 def fields(refused):
@@ -104,14 +116,14 @@ class Messages(unittest.TestCase):
             Number.PATH: {"member": "boost"},
             Number.COUNT: {"count": 65537},
             Number.ROOM: {"short": (Short("source", 16, 24), Short("destination", 14, 21))},
-            Number.STOP: {"record": 1, "at": 0, "kind": Kind.NO_SYMBOL, "member": "valve"},
+            Number.STOP: {"record": 1, "at": 0, "kind": Kind.NO_SYMBOL, "given": 7, "member": "valve"},
             Number.RANGE: {},
             Number.CHANNEL: {"member": "oil[0]", "precision": 33},
             Number.FULL: {"count": 1048577},
         }
         for number in NUMBERS:
             has = fields(refusal(number))
-            for name in ("line", "text", "member", "count", "record", "at", "kind", "precision"):
+            for name in ("line", "text", "member", "count", "record", "at", "kind", "given", "given_bits", "precision"):
                 self.assertEqual(has[name], told[number].get(name), (number, name))
             self.assertEqual(has["short"], told[number].get("short", ()))
 
@@ -135,41 +147,69 @@ class Messages(unittest.TestCase):
                 str(refused), f"ROOM (7): the {buffer} is too short: it holds {holds} bytes and needs {needs}: lend a longer one"
             )
 
+    def stopped(self, source, destination, count, data):
+        with self.assertRaises(Refusal) as caught:
+            yirvagul.convert_copying(source, destination, count, Handling.STOP, data, bytearray(8 * count))
+        return caught.exception
+
     def test_each_kind(self):
         narrow = "int\t1\tLE\t0\t4\tzero\tzero\tsigned\n"
-        for source, destination, data, kind, words in (
-            (SIGNED, narrow, b"\x07\x08", Kind.ABOVE, "above"),
-            (SIGNED, narrow, b"\xf8\xf7", Kind.BELOW, "below"),
+        for data, kind, given, words in (
+            (b"\x07\x08", Kind.ABOVE, 8, "the number 8 for byte 0 of record 1 is above"),
+            (b"\xf8\xf7", Kind.BELOW, -9, "the number -9 for byte 0 of record 1 is below"),
         ):
-            with self.assertRaises(Refusal) as caught:
-                yirvagul.convert_copying(source, destination, 2, Handling.STOP, data, bytearray(2))
-            self.assertEqual((caught.exception.record, caught.exception.kind), (1, kind))
-            self.assertEqual(
-                str(caught.exception),
-                f"STOP (8): record 1, byte 0: the number is {words} the destination's range: widen the destination, or clamp",
-            )
+            refused = self.stopped(SIGNED, narrow, 2, data)
+            self.assertEqual((refused.record, refused.kind, refused.given, refused.given_bits), (1, kind, given, None))
+            self.assertEqual(str(refused), f"STOP (8): {words} the destination's range: widen the destination, or clamp")
 
-    def test_kinds_of_reals(self):
-        wide = "int\t8\tBE\t0\t64\tzero\tzero\tunsigned\n"
-        none = "the real is not-a-number (NaN), which no int holds: make the destination a real, or clamp"
-        lost = "the real has a fraction, or is a negative zero, which no int holds: make the destination a real, or clamp"
-        above = "the number is above the destination's range: widen the destination, or clamp"
-        below = "the number is below the destination's range: widen the destination, or clamp"
-        near = "the int is no double, only near one: make the destination an int, or clamp"
-        for source, destination, data, kind, words in (
-            (REAL, BYTE, struct.pack(">d", math.nan), Kind.NOT_A_NUMBER, none),
-            (REAL, BYTE, bytes.fromhex("fff0000000000001"), Kind.NOT_A_NUMBER, none),
-            (REAL, BYTE, struct.pack(">d", 255.5), Kind.TRUNCATED, lost),
-            (REAL, BYTE, struct.pack(">d", -0.5), Kind.TRUNCATED, lost),
-            (REAL, BYTE, struct.pack(">d", -0.0), Kind.TRUNCATED, lost),
-            (REAL, BYTE, struct.pack(">d", 256.5), Kind.ABOVE, above),
-            (REAL, BYTE, struct.pack(">d", -math.inf), Kind.BELOW, below),
-            (wide, REAL, ((1 << 53) + 1).to_bytes(8, "big"), Kind.ROUNDED, near),
+    def test_given_numbers(self):
+        """Both ends of all numbers, and those of enums, which are the source's."""
+        valve = SIGNED + "enum\t0\nvalue\topen\t0\nvalue\tajar\t9\nvalue\tshut\t-2\n"
+        other = BYTE + "enum\t0\nvalue\topen\t254\nvalue\tlost\t7\nvalue\tshut\t9\n"
+        for source, destination, data, given in (
+            (SIGNED_LONG, LONG, (-(1 << 63)).to_bytes(8, "big", signed=True), -(1 << 63)),
+            (SIGNED_LONG, LONG, b"\xff" * 8, -1),
+            (LONG, SIGNED_LONG, b"\xff" * 8, (1 << 64) - 1),
+            (LONG, SIGNED_LONG, (1 << 63).to_bytes(8, "big"), 1 << 63),
+            (valve, other, b"\x07", 7),
+            (valve, other, b"\x09", 9),
+            (valve, other, b"\x80", -128),
         ):
-            with self.assertRaises(Refusal) as caught:
-                yirvagul.convert_copying(source, destination, 1, Handling.STOP, data, bytearray(8))
-            self.assertEqual(caught.exception.kind, kind)
-            self.assertEqual(str(caught.exception), f"STOP (8): record 0, byte 0: {words}")
+            refused = self.stopped(source, destination, 1, data)
+            self.assertEqual((refused.given, refused.given_bits), (given, None))
+            self.assertIs(type(refused.given), int)
+            self.assertTrue(str(refused).startswith(f"STOP (8): the number {given} for byte 0 of record 0 "), refused)
+
+    def test_given_reals(self):
+        none = "is not-a-number, which no int holds: make the destination a real, or clamp"
+        lost = "has a fraction, which no int holds: make the destination a real, or clamp"
+        zero = "is a negative zero, which no int holds: make the destination a real, or clamp"
+        above = "is above the destination's range: widen the destination, or clamp"
+        below = "is below the destination's range: widen the destination, or clamp"
+        for bits, shown, kind, words in (
+            (0x7FF8000000000000, "NaN (0x7ff8000000000000)", Kind.NOT_A_NUMBER, none),
+            (0xFFF0000000000001, "NaN (0xfff0000000000001)", Kind.NOT_A_NUMBER, none),
+            (_bits(255.5), "255.5", Kind.TRUNCATED, lost),
+            (_bits(-0.5), "-0.5", Kind.TRUNCATED, lost),
+            (1, "5e-324", Kind.TRUNCATED, lost),
+            (_bits(-0.0), "-0.0", Kind.TRUNCATED, zero),
+            (_bits(256.5), "256.5", Kind.ABOVE, above),
+            (_bits(256.0), "256.0", Kind.ABOVE, above),
+            (_bits(math.inf), "+infinity", Kind.ABOVE, above),
+            (_bits(-math.inf), "-infinity", Kind.BELOW, below),
+        ):
+            refused = self.stopped(REAL, BYTE, 1, bits.to_bytes(8, "big"))
+            self.assertEqual((refused.kind, refused.given_bits), (kind, bits))
+            self.assertIs(type(refused.given), float)
+            self.assertEqual(repr(refused.given), repr(_double(bits)))
+            self.assertEqual(str(refused), f"STOP (8): the real {shown} for byte 0 of record 0 {words}")
+
+    def test_given_ints_on_the_way_to_reals(self):
+        near = "is no double, only near one: make the destination an int, or clamp"
+        for source, given in ((LONG, (1 << 53) + 1), (LONG, (1 << 64) - 1), (SIGNED_LONG, -(1 << 63) + 1)):
+            refused = self.stopped(source, REAL, 1, (given % (1 << 64)).to_bytes(8, "big"))
+            self.assertEqual((refused.kind, refused.given, refused.given_bits), (Kind.ROUNDED, given, None))
+            self.assertEqual(str(refused), f"STOP (8): the number {given} for byte 0 of record 0 {near}")
 
     def test_what_nobody_could_tell(self):
         """With nothing but the library's words."""
@@ -196,8 +236,8 @@ class Messages(unittest.TestCase):
     def test_a_place_that_only_the_library_knows(self):
         """Sheets that this version cannot read explain nothing, and hide nothing."""
         new = b"time\t8\tLE\n"
-        refused = _explain.refusal((8, 0, 0, 3, 8, 1, 0, 0), new, new)
-        self.assertEqual((refused.record, refused.at, refused.kind, refused.member), (3, 8, Kind.ABOVE, None))
+        refused = _explain.refusal((8, 0, 0, 3, 8, 1, 1, 5), new, new)
+        self.assertEqual((refused.record, refused.at, refused.kind, refused.given, refused.member), (3, 8, Kind.ABOVE, -5, None))
         self.assertEqual(_explain.refusal((5, 0, 0, 0, 0, 0, 0, 0), new, new).rule, None)
         self.assertEqual(str(_explain.refusal((10, 0, 0, 0, 0, 0, 0, 0), new, new)), str(Refusal(10)))
         same = BYTE.encode()
@@ -223,10 +263,23 @@ class FromANewerLibrary(unittest.TestCase):
             self.assertEqual((refused.name, refused.kind, refused.member), ("STOP", kind, "boost[1]"))
             self.assertEqual(
                 str(refused),
-                f"STOP (8): record 1, `boost[1]` at byte 2: the number does not fit, of kind {kind}, "
+                f"STOP (8): the number 0 for byte 2 of record 1, member `boost[1]`, does not fit, of kind {kind}, "
                 "which this version of yirvagul does not know: clamp, or take the version of the library",
             )
             self.assertEqual(fields(pickle.loads(pickle.dumps(refused))), fields(refused))
+
+
+    def test_given(self):
+        """A number of a sort that is not known is not told, and stands in the answer."""
+        answer = (8, 0, 0, 1, 2, 1, 3, 99)
+        refused = _explain.refusal(answer, RIG.encode(), RIG.encode())
+        self.assertEqual((refused.given, refused.given_bits, refused.answer), (None, None, answer))
+        self.assertEqual(
+            str(refused),
+            "STOP (8): the number for byte 2 of record 1, member `boost[1]`, is above the destination's range: widen the destination, or clamp",
+        )
+        refused = _explain.refusal((8, 0, 0, 1, 2, 5, 3, 99), RIG.encode(), RIG.encode())
+        self.assertIn(" has a fraction, or is a negative zero, which no int holds: ", str(refused))
 
 
 class Copies(unittest.TestCase):
@@ -238,6 +291,14 @@ class Copies(unittest.TestCase):
                 self.same(refused, pickle.loads(pickle.dumps(refused, protocol)))
             self.same(refused, copy.copy(refused))
             self.same(refused, copy.deepcopy(refused))
+
+    def test_a_real(self):
+        """The bits pass where a float would lose them: not-a-numbers, and zeros with a sign."""
+        for bits in (0x7FF0000000001234, 0xFFF8000000000000, 1 << 63, _bits(0.1)):
+            refused = _explain.refusal((8, 0, 0, 0, 0, 4, 2, bits), REAL.encode(), BYTE.encode())
+            copies = [pickle.loads(pickle.dumps(refused, protocol)) for protocol in range(pickle.HIGHEST_PROTOCOL + 1)]
+            for made in [*copies, copy.copy(refused), copy.deepcopy(refused)]:
+                self.assertEqual((made.given_bits, repr(made.given), str(made)), (bits, repr(_double(bits)), str(refused)))
 
     def same(self, refused, made):
         self.assertIsNot(made, refused)

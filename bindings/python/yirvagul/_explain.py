@@ -7,8 +7,9 @@ from typing import Optional, Sequence
 from . import sheets
 from .errors import Number, Refusal, Short
 
-# The answer's words.
-COUNT, LINE, RECORD, AT, KIND = 1, 2, 3, 4, 5
+# The answer's words, and the codes of the one that says what the last is.
+COUNT, LINE, RECORD, AT, KIND, GIVEN, MAGNITUDE = 1, 2, 3, 4, 5, 6, 7
+PLUS, MINUS, REAL = 0, 1, 2
 
 
 def refusal(
@@ -40,8 +41,16 @@ def refusal(
     if number == Number.STOP and destination_sheet is not None:
         destination = tree(destination_sheet)
         member = sheets.leaf_name(destination, answer[AT]) if destination else None
+        sign = {PLUS: 1, MINUS: -1}.get(answer[GIVEN])
         return Refusal(
-            number, record=first + answer[RECORD], at=answer[AT], kind=answer[KIND], member=member, answer=answer
+            number,
+            record=first + answer[RECORD],
+            at=answer[AT],
+            kind=answer[KIND],
+            given=None if sign is None else sign * answer[MAGNITUDE],
+            given_bits=answer[MAGNITUDE] if answer[GIVEN] == REAL else None,
+            member=member,
+            answer=answer,
         )
     if number == Number.CHANNEL and destination_sheet is not None:
         destination = tree(destination_sheet)

@@ -4,6 +4,8 @@ from __future__ import annotations
 
 import copyreg
 import enum
+import math
+import struct
 from typing import Any, Callable, NamedTuple, Optional, Sequence, TypeVar, Union
 
 
@@ -63,12 +65,14 @@ class Refusal(Exception):
     - PATH: the `member` that has none, and the `rule` that it breaks
     - COUNT: `count`, the number of records
     - ROOM: `short`, each buffer that is too short
-    - STOP: `record`, from 0; `at`, the first byte of the leaf in its destination record; `kind`; the `member`, such as `boost[1]`
+    - STOP: `record`, from 0; `at`, the first byte of the leaf in its destination record; `kind`; the `member`, such as `boost[1]`;
+      `given`, the number that did not fit, as it stood in the source: an int, or of a real a float, with its 64 bits in `given_bits`
     - RANGE: the `rule` that an argument or the layout breaks
     - CHANNEL: the `member` that is too wide for a report, and its `precision`, in bits
     - FULL: `count`, the number of records that the report would have
 
     A number or a kind that this version does not know is kept as it came: the name is then UNKNOWN, and `answer` has all words of the answer.
+    A given number of a sort that it does not know is None, and stands there too.
     """
 
     def __init__(
@@ -85,6 +89,8 @@ class Refusal(Exception):
         record: Optional[int] = None,
         at: Optional[int] = None,
         kind: Optional[int] = None,
+        given: Optional[int] = None,
+        given_bits: Optional[int] = None,
         precision: Optional[int] = None,
         answer: Sequence[int] = (),
     ) -> None:
@@ -94,6 +100,8 @@ class Refusal(Exception):
         self.count, self.short = count, tuple(short)
         self.record, self.at = record, at
         self.kind = None if kind is None else _known(Kind, kind)
+        self.given_bits = given_bits
+        self.given: Union[int, float, None] = given if given_bits is None else _double(given_bits)
         self.precision = precision
         self.answer = tuple(answer)
         said = _MESSAGES.get(int(number), _unknown)(self)
@@ -141,26 +149,51 @@ def _room(refused: Refusal) -> str:
     return f"{said}: lend {'a longer one' if len(refused.short) == 1 else 'longer ones'}"
 
 
+def _double(bits: int) -> float:
+    """The double of 64 bits."""
+    number: float = struct.unpack("<d", struct.pack("<Q", bits))[0]
+    return number
+
+
 _WHY = {
-    Kind.ABOVE: "the number is above the destination's range: widen the destination, or clamp",
-    Kind.BELOW: "the number is below the destination's range: widen the destination, or clamp",
-    Kind.NO_SYMBOL: "the number has no symbol, or its symbol is not in the destination: complete the enums, or clamp",
-    Kind.NOT_A_NUMBER: "the real is not-a-number (NaN), which no int holds: make the destination a real, or clamp",
-    Kind.TRUNCATED: "the real has a fraction, or is a negative zero, which no int holds: make the destination a real, or clamp",
-    Kind.ROUNDED: "the int is no double, only near one: make the destination an int, or clamp",
+    Kind.ABOVE: "is above the destination's range: widen the destination, or clamp",
+    Kind.BELOW: "is below the destination's range: widen the destination, or clamp",
+    Kind.NO_SYMBOL: "has no symbol, or its symbol is not in the destination: complete the enums, or clamp",
+    Kind.NOT_A_NUMBER: "is not-a-number, which no int holds: make the destination a real, or clamp",
+    Kind.TRUNCATED: "has a fraction, or is a negative zero, which no int holds: make the destination a real, or clamp",
+    Kind.ROUNDED: "is no double, only near one: make the destination an int, or clamp",
 }
 
 
+def _given(refused: Refusal) -> str:
+    """The number as a person reads it: `the number 4095`, `the real 255.5`, `the real NaN (0x7ff8000000000000)`."""
+    given, bits = refused.given, refused.given_bits
+    if given is None:
+        return "the number"
+    if bits is None:
+        return f"the number {given}"
+    if math.isnan(given):
+        return f"the real NaN (0x{bits:016x})"
+    if math.isinf(given):
+        return f"the real {'+' if given > 0 else '-'}infinity"
+    return f"the real {given!r}"
+
+
 def _stop(refused: Refusal) -> str:
-    leaf = f"byte {refused.at}" if refused.member is None else f"{quoted(refused.member)} at byte {refused.at}"
-    if isinstance(refused.kind, Kind):
+    place = f"byte {refused.at} of record {refused.record}"
+    if refused.member is not None:
+        place += f", member {quoted(refused.member)},"
+    if refused.kind == Kind.TRUNCATED and refused.given is not None:
+        lost = "has a fraction" if refused.given else "is a negative zero"
+        why = f"{lost}, which no int holds: make the destination a real, or clamp"
+    elif isinstance(refused.kind, Kind):
         why = _WHY[refused.kind]
     else:
         why = (
-            f"the number does not fit, of kind {refused.kind}, which this version of yirvagul does not know: "
+            f"does not fit, of kind {refused.kind}, which this version of yirvagul does not know: "
             "clamp, or take the version of the library"
         )
-    return f"record {refused.record}, {leaf}: {why}"
+    return f"{_given(refused)} for {place} {why}"
 
 
 def _range(refused: Refusal) -> str:

@@ -52,14 +52,74 @@ impl Kind {
 /// What is wrong with the number, and what to do about it.
 impl fmt::Display for Kind {
     fn fmt(&self, f: &mut fmt::Formatter) -> fmt::Result {
+        let subject = match self {
+            Kind::NotANumber | Kind::Truncated => "the real",
+            Kind::Rounded => "the int",
+            _ => "the number",
+        };
+        write!(f, "{subject} {}", self.why(None))
+    }
+}
+
+impl Kind {
+    /// What is said of the number, where it is known or not.
+    fn why(self, given: Option<Given>) -> String {
+        let lost = match given {
+            Some(Given::Real(NEGATIVE_ZERO)) => "is a negative zero",
+            Some(Given::Real(_)) => "has a fraction",
+            _ => "has a fraction, or is a negative zero",
+        };
         match self {
-            Kind::Above => f.write_str("the number is above the destination's range: widen the destination, or clamp"),
-            Kind::Below => f.write_str("the number is below the destination's range: widen the destination, or clamp"),
-            Kind::NoSymbol => f.write_str("the number has no symbol, or its symbol is not in the destination: complete the enums, or clamp"),
-            Kind::NotANumber => f.write_str("the real is not-a-number (NaN), which no int holds: make the destination a real, or clamp"),
-            Kind::Truncated => f.write_str("the real has a fraction, or is a negative zero, which no int holds: make the destination a real, or clamp"),
-            Kind::Rounded => f.write_str("the int is no double, only near one: make the destination an int, or clamp"),
-            Kind::Unknown(number) => write!(f, "the number does not fit, for a reason that this version does not know (kind {number}): clamp, or use a newer wrapper"),
+            Kind::Above => "is above the destination's range: widen the destination, or clamp".into(),
+            Kind::Below => "is below the destination's range: widen the destination, or clamp".into(),
+            Kind::NoSymbol => "has no symbol, or its symbol is not in the destination: complete the enums, or clamp".into(),
+            Kind::NotANumber => "is not-a-number, which no int holds: make the destination a real, or clamp".into(),
+            Kind::Truncated => format!("{lost}, which no int holds: make the destination a real, or clamp"),
+            Kind::Rounded => "is no double, only near one: make the destination an int, or clamp".into(),
+            Kind::Unknown(number) => format!("does not fit, for a reason that this version does not know (kind {number}): clamp, or use a newer wrapper"),
+        }
+    }
+}
+
+const NEGATIVE_ZERO: u64 = 1 << 63;
+
+/// The number that a destination leaf was given, as it stood in the source leaf: an enum's is the source's number, not the destination's.
+#[derive(Clone, Copy, Debug, PartialEq, Eq, Hash)]
+#[non_exhaustive]
+pub enum Given {
+    /// A number of an int, bits or an enum, from -2^63 to 2^64 - 1. An int that goes into a real is one of these too.
+    Whole(i128),
+    /// The 64 bits of a real, whatever it goes into: [`f64::from_bits`] gives the double.
+    Real(u64),
+    /// A code that this version of the crate does not know, and the word beside it: words 6 and 7 of the answer in include/yirvagul.h.
+    Unknown(u64, u64),
+}
+
+impl Given {
+    fn from_words(given: u64, magnitude: u64) -> Given {
+        match given {
+            0 => Given::Whole(magnitude.into()),
+            1 => Given::Whole(-i128::from(magnitude)),
+            2 => Given::Real(magnitude),
+            _ => Given::Unknown(given, magnitude),
+        }
+    }
+}
+
+/// As "the number 4095", "the real 255.5" or "the real NaN (0x7ff8000000000000)".
+impl fmt::Display for Given {
+    fn fmt(&self, f: &mut fmt::Formatter) -> fmt::Result {
+        match *self {
+            Given::Whole(number) => write!(f, "the number {number}"),
+            Given::Real(bits) => match f64::from_bits(bits) {
+                real if real.is_nan() => write!(f, "the real NaN ({bits:#018x})"),
+                f64::INFINITY => f.write_str("the real +infinity"),
+                f64::NEG_INFINITY => f.write_str("the real -infinity"),
+                real => write!(f, "the real {real:?}"),
+            },
+            Given::Unknown(given, magnitude) => {
+                write!(f, "the number of the words {given} and {magnitude}")
+            }
         }
     }
 }
@@ -173,6 +233,8 @@ pub enum Error {
         at: u32,
         /// Why it does not fit.
         kind: Kind,
+        /// The number that did not fit.
+        given: Given,
         /// The leaf's name, as `boost[1]`; empty where the record itself is the leaf.
         member: Option<String>,
     },
@@ -239,9 +301,9 @@ impl Error {
         }
     }
 
-    /// What an answer's words say by themselves. Their fields fit 32 bits.
+    /// What an answer's words say by themselves. Line and byte fit 32 bits.
     pub(crate) fn from_answer(answer: Answer) -> Error {
-        let [number, _, line, record, at, kind, ..] = answer;
+        let [number, _, line, record, at, kind, given, magnitude] = answer;
         let (line, at) = (line as u32, at as u32);
         let (text, rule, member, why, short) = (None, None, None, None, None);
         match number {
@@ -261,6 +323,7 @@ impl Error {
                 record,
                 at,
                 kind: Kind::from_number(kind),
+                given: Given::from_words(given, magnitude),
                 member,
             },
             9 => Error::Range,
@@ -320,10 +383,13 @@ impl fmt::Display for Error {
             Error::Count => f.write_str("more than 65,536 records in one call: convert them in parts, as convert_log does"),
             Error::Room { short: Some(Short { buffer, holds, needs }) } => write!(f, "the {buffer} is too short: it holds {holds} bytes and needs {needs}: lend a longer one"),
             Error::Room { .. } => f.write_str("a buffer is too short for that many records, or for the list: lend a longer one"),
-            Error::Stop { record, at, kind, member } => match member.as_deref() {
-                None | Some("") => write!(f, "record {record}, byte {at}: {kind}"),
-                Some(member) => write!(f, "record {record}, `{member}` at byte {at}: {kind}"),
-            },
+            Error::Stop { record, at, kind, given, member } => {
+                write!(f, "{given} for byte {at} of record {record}")?;
+                if let Some(member) = member.as_deref().filter(|member| !member.is_empty()) {
+                    write!(f, ", member `{member}`,")?;
+                }
+                write!(f, " {}", kind.why(Some(*given)))
+            }
             Error::Range => f.write_str("the argument or the layout breaks the rules of a layout: size 1 to 8 bytes, precision 1 to 64 bits, offset + precision within the size, no sign on bits"),
             Error::Channel { member: Some(member), precision: Some(precision) } => write!(f, "{} has {precision} bits, and a report takes ints of at most 32: narrow it in the reader's sheet, or leave it out", named(member)),
             Error::Channel { .. } => f.write_str("an int of the reader's sheet has more than 32 bits: narrow it, or leave it out"),

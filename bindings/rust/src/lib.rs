@@ -36,7 +36,7 @@ mod sheet;
 #[cfg(test)]
 mod tests;
 
-pub use error::{Buffer, Error, Kind, Short};
+pub use error::{Buffer, Error, Given, Kind, Short};
 use explain::Call;
 pub use layout::{Class, Layout, Order, Pad, Sign};
 pub use log::{
@@ -205,14 +205,18 @@ fn sheets<'a>(source: &'a [u8], destination: &'a [u8], count: u64) -> Sheets<'a>
 /// [`Converter::convert_copying`] with a table of its own.
 ///
 /// ```
-/// use yirvagul::{convert_copying, Error, Handling, Kind};
+/// use yirvagul::{convert_copying, Error, Given, Handling, Kind};
 ///
 /// let byte = b"int\t1\tLE\t0\t8\tzero\tzero\tunsigned\n";
 /// let signed = b"int\t1\tLE\t0\t8\tzero\tzero\tsigned\n";
 /// let mut out = [0; 2];
 /// // 255 is above the range of a signed byte
 /// let error = convert_copying(byte, signed, 2, Handling::Stop, &[5, 255], &mut out).unwrap_err();
-/// assert!(matches!(error, Error::Stop { record: 1, at: 0, kind: Kind::Above, .. }));
+/// assert!(matches!(error, Error::Stop { record: 1, at: 0, kind: Kind::Above, given: Given::Whole(255), .. }));
+/// assert_eq!(
+///     error.to_string(),
+///     "STOP (8): the number 255 for byte 0 of record 1 is above the destination's range: widen the destination, or clamp"
+/// );
 /// assert_eq!(out, [0; 2]);
 /// assert_eq!(convert_copying(byte, signed, 2, Handling::Clamp, &[5, 255], &mut out), Ok(1));
 /// assert_eq!(out, [5, 127]);

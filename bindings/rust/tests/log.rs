@@ -3,8 +3,8 @@ use std::fs::{self, File};
 use std::io::{self, Cursor, Read, Seek, SeekFrom, Write};
 use std::path::{Path, PathBuf};
 use yirvagul::{
-    convert_copying, convert_log, convert_log_parts, Error, Handling, Input, Kind, LogConverter,
-    LogError, Output, Totals,
+    convert_copying, convert_log, convert_log_parts, Error, Given, Handling, Input, Kind,
+    LogConverter, LogError, Output, Totals,
 };
 
 /// Two unsigned bytes.
@@ -131,15 +131,16 @@ fn a_buffer_is_its_own_background_as_in_one_call() {
     assert_eq!(parts[3000], 0x77);
 }
 
-fn stop(result: Result<Totals, LogError>) -> (u64, u32, Kind, String) {
+fn stop(result: Result<Totals, LogError>) -> (u64, u32, Kind, Given, String) {
     match result {
         Err(LogError::Refused(Error::Stop {
             record,
             at,
             kind,
+            given,
             member,
             ..
-        })) => (record, at, kind, member.unwrap()),
+        })) => (record, at, kind, given, member.unwrap()),
         other => panic!("{other:?}"),
     }
 }
@@ -148,7 +149,7 @@ fn stop(result: Result<Totals, LogError>) -> (u64, u32, Kind, String) {
 fn a_stop_leaves_the_output_and_names_the_logs_record() {
     let folder = folder("stop");
     let log = log(&[140_000, 140_001]);
-    let wanted = (140_000, 1, Kind::Above, "a".to_string());
+    let wanted = (140_000, 1, Kind::Above, Given::Whole(200), "a".to_string());
     let path = folder.join("out");
     fs::write(&path, "as it was").unwrap();
     for jobs in [1, 2, 5] {
@@ -179,7 +180,7 @@ fn a_stop_leaves_the_output_and_names_the_logs_record() {
     let refused = convert_log(FROM, TO, Handling::Stop, &log, &path);
     assert_eq!(
         refused.unwrap_err().to_string(),
-        "STOP (8): record 140000, `a` at byte 1: the number is above the destination's range: widen the destination, or clamp"
+        "STOP (8): the number 200 for byte 1 of record 140000, member `a`, is above the destination's range: widen the destination, or clamp"
     );
 }
 

@@ -1,5 +1,5 @@
 //! Every call, and every number that it answers.
-use super::{BITS, BYTE, PAIR, REAL, SIGNED, WIDE as WIDE_LINE};
+use super::{BITS, BYTE, PAIR, REAL, SIGNED, SIGNED_WIDE, WIDE as WIDE_LINE};
 use crate::*;
 
 const WIDE: Layout = Layout {
@@ -112,9 +112,76 @@ fn each_refusal_leaves_the_destination() {
             record: 1,
             at: 0,
             kind: Kind::Above,
+            given: Given::Whole(255),
             ..
         }
     ));
+}
+
+#[test]
+fn stop_gives_the_number() {
+    let given = |from: &[u8], to: &[u8], source: &[u8]| {
+        let stop = |handled: Result<u64, Error>| match handled {
+            Err(Error::Stop { given, .. }) => given,
+            other => panic!("{other:?}"),
+        };
+        let mut buffer = [source, &[0x77; 8]].concat();
+        let moved = convert_in_place(from, to, 1, Handling::Stop, &mut buffer, &[0; 8]);
+        let given = stop(convert_copying(
+            from,
+            to,
+            1,
+            Handling::Stop,
+            source,
+            &mut [0; 8],
+        ));
+        assert_eq!(stop(moved), given);
+        given
+    };
+    // not the clamped number, at both ends of all numbers
+    for number in [i64::MIN, i64::MIN + 1, -1] {
+        let source = number.to_be_bytes();
+        assert_eq!(
+            given(SIGNED_WIDE, WIDE_LINE, &source),
+            Given::Whole(number.into())
+        );
+    }
+    for number in [1 << 63, u64::MAX] {
+        let source = number.to_be_bytes();
+        assert_eq!(
+            given(WIDE_LINE, SIGNED_WIDE, &source),
+            Given::Whole(number.into())
+        );
+    }
+    // an enum's is the source's
+    let from = [
+        SIGNED,
+        b"enum\t0\nvalue\topen\t0\nvalue\tajar\t9\nvalue\tshut\t-2\n",
+    ]
+    .concat();
+    let to = [
+        BYTE,
+        b"enum\t0\nvalue\topen\t254\nvalue\tlost\t7\nvalue\tshut\t9\n",
+    ]
+    .concat();
+    for (byte, number) in [(7, 7), (9, 9), (0x80, -128)] {
+        assert_eq!(given(&from, &to, &[byte]), Given::Whole(number));
+    }
+    // a real's are its bits, an int's on the way to a real are none
+    for real in [256.0, 0.5, -0.0, f64::INFINITY, f64::NAN, -f64::NAN] {
+        let source = real.to_be_bytes();
+        assert_eq!(given(REAL, BYTE, &source), Given::Real(real.to_bits()));
+    }
+    let signalling = 0x7ff0_0000_0000_1234_u64;
+    assert_eq!(
+        given(REAL, SIGNED_WIDE, &signalling.to_be_bytes()),
+        Given::Real(signalling)
+    );
+    let near = -(1_i64 << 53) - 1;
+    assert_eq!(
+        given(SIGNED_WIDE, REAL, &near.to_be_bytes()),
+        Given::Whole(near.into())
+    );
 }
 
 #[test]
@@ -276,6 +343,19 @@ fn the_header_has_these_names() {
         assert!(HEADER.contains(&line), "{line}");
     }
     assert!(!HEADER.contains(" = 12"));
+}
+
+#[test]
+fn the_header_has_these_codes_of_a_given_number() {
+    for line in [
+        "_ANSWER_GIVEN = 6,",
+        "_ANSWER_MAGNITUDE = 7 ",
+        "_GIVEN_PLUS = 0,",
+        "_GIVEN_MINUS = 1,",
+        "_GIVEN_REAL = 2 ",
+    ] {
+        assert!(HEADER.contains(&format!(" YIRVAGUL{line}")), "{line}");
+    }
 }
 
 #[test]

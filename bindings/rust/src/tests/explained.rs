@@ -1,5 +1,5 @@
 //! What is said of refusals by their buffers, paths and leaves, and that nothing is said which the library did not.
-use super::{BITS, BYTE, PAIR, REAL, SIGNED, WIDE};
+use super::{BITS, BYTE, PAIR, REAL, SIGNED, SIGNED_WIDE, WIDE};
 use crate::*;
 
 fn copying(from: &[u8], to: &[u8], count: u64, source: &[u8], room: usize) -> Error {
@@ -144,7 +144,7 @@ fn stop_names_the_leaf() {
     };
     assert_eq!(
         said(BYTE, SIGNED, 2, &[5, 255]),
-        "STOP (8): record 1, byte 0: the number is above the destination's range: widen the destination, or clamp"
+        "STOP (8): the number 255 for byte 0 of record 1 is above the destination's range: widen the destination, or clamp"
     );
     let (from, to) = (
         record(&[SIGNED, b"array\t0\t3\n"].concat(), 3, 1, "boost"),
@@ -152,13 +152,13 @@ fn stop_names_the_leaf() {
     );
     assert_eq!(
         said(&from, &to, 1, &[5, 255, 7]),
-        "STOP (8): record 0, `boost[1]` at byte 2: the number is below the destination's range: widen the destination, or clamp"
+        "STOP (8): the number -1 for byte 2 of record 0, member `boost[1]`, is below the destination's range: widen the destination, or clamp"
     );
     let symbols = [BYTE, b"enum\t0\nvalue\topen\t0\n"].concat();
     let valve = record(&symbols, 1, 1, "valve");
     assert_eq!(
         said(&valve, &valve, 1, &[7]),
-        "STOP (8): record 0, `valve` at byte 0: the number has no symbol, or its symbol is not in the destination: complete the enums, or clamp"
+        "STOP (8): the number 7 for byte 0 of record 0, member `valve`, has no symbol, or its symbol is not in the destination: complete the enums, or clamp"
     );
 }
 
@@ -166,24 +166,50 @@ fn stop_names_the_leaf() {
 fn stop_says_what_is_wrong_with_a_real() {
     let boost = record(REAL, 8, 0, "boost");
     let (byte, wide) = (record(BYTE, 1, 0, "boost"), record(WIDE, 8, 0, "boost"));
-    let said = |from: &[u8], to: &[u8], bits: u64| {
+    let said = |from: &[u8], to: &[u8], bits: u64, given: &str, why: &str| {
         let e = copying(from, to, 1, &bits.to_be_bytes(), 8).to_string();
-        let start = "STOP (8): record 0, `boost` at byte 0: ";
-        e.strip_prefix(start).expect(&e).to_string()
+        let place = "for byte 0 of record 0, member `boost`,";
+        assert_eq!(e, format!("STOP (8): {given} {place} {why}"));
     };
-    let not_a_number =
-        "the real is not-a-number (NaN), which no int holds: make the destination a real, or clamp";
-    assert_eq!(said(&boost, &byte, f64::NAN.to_bits()), not_a_number);
-    assert_eq!(said(&boost, &byte, 0xfff0_0000_0000_0001), not_a_number);
-    let fraction = "the real has a fraction, or is a negative zero, which no int holds: make the destination a real, or clamp";
-    assert_eq!(said(&boost, &byte, 255.5_f64.to_bits()), fraction);
-    assert_eq!(said(&boost, &byte, (-0.0_f64).to_bits()), fraction);
-    let above = "the number is above the destination's range: widen the destination, or clamp";
-    assert_eq!(said(&boost, &byte, 256.5_f64.to_bits()), above);
-    assert_eq!(said(&boost, &byte, f64::INFINITY.to_bits()), above);
-    assert_eq!(
-        said(&wide, &boost, (1 << 53) + 1),
-        "the int is no double, only near one: make the destination an int, or clamp"
+    let to_byte = |bits, given: &str, why: &str| said(&boost, &byte, bits, given, why);
+    let none = "is not-a-number, which no int holds: make the destination a real, or clamp";
+    to_byte(
+        0x7ff8_0000_0000_0000,
+        "the real NaN (0x7ff8000000000000)",
+        none,
+    );
+    to_byte(
+        0xfff0_0000_0000_0001,
+        "the real NaN (0xfff0000000000001)",
+        none,
+    );
+    let fraction = "has a fraction, which no int holds: make the destination a real, or clamp";
+    to_byte(255.5_f64.to_bits(), "the real 255.5", fraction);
+    to_byte((-0.5_f64).to_bits(), "the real -0.5", fraction);
+    to_byte(1, "the real 5e-324", fraction);
+    to_byte(
+        (-0.0_f64).to_bits(),
+        "the real -0.0",
+        "is a negative zero, which no int holds: make the destination a real, or clamp",
+    );
+    let above = "is above the destination's range: widen the destination, or clamp";
+    to_byte(256.5_f64.to_bits(), "the real 256.5", above);
+    to_byte(256.0_f64.to_bits(), "the real 256.0", above);
+    to_byte(1e300_f64.to_bits(), "the real 1e300", above);
+    to_byte(f64::INFINITY.to_bits(), "the real +infinity", above);
+    let below = "is below the destination's range: widen the destination, or clamp";
+    to_byte(f64::NEG_INFINITY.to_bits(), "the real -infinity", below);
+    let near = "is no double, only near one: make the destination an int, or clamp";
+    let to_real = |bits, given: &str| said(&wide, &boost, bits, given, near);
+    to_real((1 << 53) + 1, "the number 9007199254740993");
+    to_real(u64::MAX, "the number 18446744073709551615");
+    let signed = record(SIGNED_WIDE, 8, 0, "boost");
+    said(
+        &signed,
+        &boost,
+        (1 << 63) + 1,
+        "the number -9223372036854775807",
+        near,
     );
 }
 
@@ -238,8 +264,8 @@ fn what_is_not_found_is_not_said() {
     );
     // a byte at which no leaf starts
     assert_eq!(
-        explained([8, 0, 0, 4, 9, 1, 0, 0], &call),
-        "STOP (8): record 4, byte 9: the number is above the destination's range: widen the destination, or clamp"
+        explained([8, 0, 0, 4, 9, 1, 1, 300], &call),
+        "STOP (8): the number -300 for byte 9 of record 4 is above the destination's range: widen the destination, or clamp"
     );
 }
 
@@ -268,14 +294,34 @@ fn unknown_numbers_and_kinds_are_said() {
         e.to_string(),
         "UNKNOWN (12): a refusal that this version does not know, with the words [12, 0, 0, 0, 0, 0, 0, 0]: use a newer wrapper"
     );
-    let Error::Stop { kind, .. } = Error::from_answer([8, 0, 0, 0, 0, 7, 0, 0]) else {
+    let e = Error::from_answer([8, 0, 0, 2, 4, 7, 3, 99]);
+    let Error::Stop { kind, given, .. } = e else {
         panic!("no STOP")
     };
     assert_eq!((kind, kind.number()), (Kind::Unknown(7), 7));
+    assert_eq!(given, Given::Unknown(3, 99));
+    assert_eq!(
+        e.to_string(),
+        "STOP (8): the number of the words 3 and 99 for byte 4 of record 2 does not fit, for a reason that this version does not know (kind 7): clamp, or use a newer wrapper"
+    );
     assert_eq!(
         kind.to_string(),
         "the number does not fit, for a reason that this version does not know (kind 7): clamp, or use a newer wrapper"
     );
+}
+
+#[test]
+fn kinds_by_themselves() {
+    for (kind, text) in [
+        (Kind::Above, "the number is above the destination's range"),
+        (Kind::Below, "the number is below the destination's range"),
+        (Kind::NoSymbol, "the number has no symbol, or its symbol"),
+        (Kind::NotANumber, "the real is not-a-number, which no int"),
+        (Kind::Truncated, "the real has a fraction, or is a negative"),
+        (Kind::Rounded, "the int is no double, only near one"),
+    ] {
+        assert!(kind.to_string().starts_with(text), "{kind}");
+    }
 }
 
 #[test]

@@ -62,7 +62,7 @@ pub fn long_case(random: &mut Random, tally: &mut Tally) -> Result<(), String> {
     finish(random, tally, &run)
 }
 
-fn finish(random: &mut Random, tally: &mut Tally, run: &Run) -> Result<(), String> {
+pub fn finish(random: &mut Random, tally: &mut Tally, run: &Run) -> Result<(), String> {
     let seen = run::both(random, run)?;
     crate::events::note(tally, run, &seen);
     sizes::of_run(random, tally, run)

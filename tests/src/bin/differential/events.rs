@@ -2,6 +2,7 @@
 
 use crate::real_events;
 use crate::run::{Run, Seen};
+use crate::stop_events;
 use crate::tally::Tally;
 use independent::datatype::Datatype;
 use independent::paths;
@@ -24,6 +25,7 @@ pub fn note(tally: &mut Tally, run: &Run, seen: &Seen) {
             if at > 0 {
                 tally.saw("STOP past byte 0");
             }
+            stop_events::note(tally, run, record, at);
         }
         _ => {}
     }

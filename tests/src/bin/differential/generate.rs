@@ -121,26 +121,89 @@ impl Maker<'_> {
 /// Two sheets of a few ints and reals under the same names, most of them a real
 /// in one of the two.
 pub fn reals(random: &mut Random) -> (Model, Model) {
-    let (mut from, mut to) = (Model::default(), Model::default());
-    let (mut members, mut others): (Vec<Row>, Vec<Row>) = (Vec::new(), Vec::new());
-    for _ in 0..random.between(1, 7) {
-        let name = new_name(random, |name| members.iter().any(|row| row.name == name));
+    paired(random, |random, from, to| {
         let (first, second) = match random.below(5) {
             0 | 1 => (Line::Int(wide(random)), Line::Real(order(random))),
             2 | 3 => (Line::Real(order(random)), Line::Int(wide(random))),
             _ => (Line::Real(order(random)), Line::Real(order(random))),
         };
-        let add = |model: &mut Model, rows: &mut Vec<Row>, line| {
-            let datatype = model.push(line);
-            let name = name.clone();
+        (from.push(first), to.push(second))
+    })
+}
+
+/// Two sheets of a few leaves under the same names, of every class and mostly
+/// of many bits: each pair has a number that raises an exception, or nearly
+/// each.
+pub fn unequal(random: &mut Random) -> (Model, Model) {
+    paired(random, |random, from, to| {
+        let (first, second) = match random.below(9) {
+            0 | 1 => (Line::Int(widest(random)), Line::Int(atomic(random, 8))),
+            2 => (Line::Int(widest(random)), Line::Int(widest(random))),
+            3 => (unsigned(widest(random)), unsigned(atomic(random, 8))),
+            4 | 5 => return enums(random, from, to),
+            6 => (Line::Int(widest(random)), Line::Real(order(random))),
+            _ => (Line::Real(order(random)), Line::Int(wide(random))),
+        };
+        (from.push(first), to.push(second))
+    })
+}
+
+fn unsigned(layout: Atomic) -> Line {
+    Line::Bits(Atomic {
+        signed: false,
+        ..layout
+    })
+}
+
+/// Two enums that share some symbols, mostly with other numbers.
+fn enums(random: &mut Random, from: &mut Model, to: &mut Model) -> (usize, usize) {
+    let base = from.push(Line::Int(widest(random)));
+    let mut values = Vec::new();
+    for _ in 0..random.below(6) {
+        add_value(random, from.range(base), &mut values);
+    }
+    let other_base = to.push(Line::Int(wide(random)));
+    let (low, high) = to.range(other_base);
+    let mut others: Vec<(Name, i128)> = Vec::new();
+    for (name, number) in &values {
+        let number = match random.percent(30) {
+            true => (*number).clamp(low, high),
+            false => random.number(low, high),
+        };
+        let is_new = others.iter().all(|value| value.1 != number);
+        if is_new && random.percent(60) {
+            others.push((name.clone(), number));
+        }
+    }
+    for _ in 0..random.below(3) {
+        add_value(random, (low, high), &mut others);
+    }
+    let first = from.push(Line::Enum { base, values });
+    let second = to.push(Line::Enum {
+        base: other_base,
+        values: others,
+    });
+    (first, second)
+}
+
+/// Two compounds of members under the same names; `pair` makes the types of a
+/// member in both sheets.
+fn paired(
+    random: &mut Random,
+    pair: impl Fn(&mut Random, &mut Model, &mut Model) -> (usize, usize),
+) -> (Model, Model) {
+    let (mut from, mut to) = (Model::default(), Model::default());
+    let (mut members, mut others): (Vec<Row>, Vec<Row>) = (Vec::new(), Vec::new());
+    for _ in 0..random.between(1, 7) {
+        let name = new_name(random, |name| members.iter().any(|row| row.name == name));
+        let (first, second) = pair(random, &mut from, &mut to);
+        for (rows, datatype) in [(&mut members, first), (&mut others, second)] {
             rows.push(Row {
-                name,
+                name: name.clone(),
                 at: 0,
                 datatype,
             });
-        };
-        add(&mut from, &mut members, first);
-        add(&mut to, &mut others, second);
+        }
     }
     for (model, mut rows) in [(&mut from, members), (&mut to, others)] {
         let size = place(random, model, &mut rows, 80);
@@ -162,6 +225,20 @@ fn wide(random: &mut Random) -> Atomic {
         layout.offset = random.between(0, 64 - precision);
     }
     layout
+}
+
+/// The same, in half of the cases with all 64 bits.
+fn widest(random: &mut Random) -> Atomic {
+    let layout = wide(random);
+    match random.percent(50) {
+        true => Atomic {
+            size: 8,
+            offset: 0,
+            precision: 64,
+            ..layout
+        },
+        false => layout,
+    }
 }
 
 /// Places members in any order, often with gaps; gives a size with room for

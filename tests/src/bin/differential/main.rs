@@ -27,6 +27,8 @@ mod report_run;
 mod reports;
 mod run;
 mod sizes;
+mod stop_events;
+mod stops;
 mod tally;
 mod watch;
 
@@ -112,7 +114,7 @@ fn run_cases(options: &Options) -> bool {
 }
 
 fn run_case(random: &mut Random, tally: &mut Tally) -> Result<(), String> {
-    let choice = random.below(1300);
+    let choice = random.below(1360);
     let (kind, result) = match choice {
         0 => (
             "conversion of 65,536 records",
@@ -145,7 +147,8 @@ fn run_case(random: &mut Random, tally: &mut Tally) -> Result<(), String> {
             reports::case(random, tally, 25),
         ),
         1195..=1249 => ("report's laws", report_laws::case(random, tally)),
-        _ => ("conversion of reals", convert::real_case(random, tally)),
+        1250..=1299 => ("conversion of reals", convert::real_case(random, tally)),
+        _ => ("conversion that stops", stops::case(random, tally)),
     };
     tally.saw(&format!("case: {kind}"));
     result.map_err(|fault| format!("({kind}) {fault}"))

@@ -2,6 +2,7 @@
 
 use crate::convert::{self, large_count, length, resize, small_count, with_types};
 use crate::derive::{derive, mend};
+use crate::generate;
 use crate::held::{self, held, spoil_words};
 use crate::limits;
 use crate::model::{Line, Model};
@@ -57,12 +58,15 @@ fn finish(random: &mut Random, tally: &mut Tally, run: &ReportRun) -> Result<(),
     Ok(())
 }
 
-/// Models for a source and a reader's sheet, mostly with a path. Most readers
-/// have an int leaf.
+/// Models for a source and a reader's sheet, mostly with a path, and some of
+/// them of ints and reals alone. Most readers have an int leaf.
 pub fn models(random: &mut Random, spoil: u64) -> (Model, Model) {
     let mut tries = 3;
     loop {
-        let (from, reader) = convert::models(random, spoil);
+        let (from, reader) = match random.percent(8) {
+            true => generate::reals(random),
+            false => convert::models(random, spoil),
+        };
         let reader = reader_of(random, spoil, &reader);
         let has_ints = sheet::read(&reader.text()).is_ok_and(|to| !int_leaves(&to).is_empty());
         tries -= 1;

@@ -63,7 +63,16 @@ pub struct Seen {
 
 /// An answer as its eight words.
 pub fn words(a: Answer) -> [u64; 8] {
-    [a.number, a.count, a.line, a.record, a.at, a.kind, 0, 0]
+    [
+        a.number,
+        a.count,
+        a.line,
+        a.record,
+        a.at,
+        a.kind,
+        a.given,
+        a.magnitude,
+    ]
 }
 
 impl From<After> for Seen {
@@ -108,7 +117,7 @@ const FIELDS: [&str; 8] = [
     "record",
     "at",
     "kind",
-    "negative",
+    "given",
     "magnitude",
 ];
 

@@ -4,18 +4,20 @@
 use crate::fields;
 use crate::real_events;
 use crate::run::{FORMS, Form};
+use crate::stop_events;
 use std::collections::BTreeMap;
 
 #[derive(Default)]
 pub struct Tally(BTreeMap<String, u64>);
 
 /// Beside the answers, what a whole run must have met.
-const NEEDED: [&str; 97] = [
+const NEEDED: [&str; 98] = [
     "case: conversion",
     "case: conversion with many refusals",
     "case: conversion at the limits",
     "case: conversion of 65,536 records",
     "case: conversion of reals",
+    "case: conversion that stops",
     "case: leaf list",
     "case: setters",
     "case: properties",
@@ -137,6 +139,7 @@ impl Tally {
             &real_events::NEEDED,
             &real_events::REPORT_NEEDED,
             &fields::NEEDED,
+            &stop_events::NEEDED,
         ];
         let all = lists.iter().flat_map(|list| list.iter());
         let mut needed: Vec<String> = all.map(|what| what.to_string()).collect();

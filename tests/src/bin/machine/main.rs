@@ -218,14 +218,25 @@ impl Path {
             let (answer, _) = self.call(record, 1, 1);
             let wanted = match expected[i].1 {
                 None => [0; 8],
-                Some(kind) => [8, 0, 0, 0, 0, kind, 0, 0],
+                Some(kind) => {
+                    let (given, magnitude) = self.given(numbers[i]);
+                    [8, 0, 0, 0, 0, kind, given, magnitude]
+                }
             };
-            // Words 6 and 7 say more of a STOP, or nothing.
-            if answer[..6] != wanted[..6] {
+            if answer != wanted {
                 return Err(format!("{} answers {answer:?}: {self}", numbers[i]));
             }
         }
         Ok(())
+    }
+
+    /// The words of STOP for a number of the source: a real's are its 64 bits.
+    fn given(&self, number: i128) -> (u64, u64) {
+        if self.from.0.starts_with("real") {
+            (2, number as u64)
+        } else {
+            (u64::from(number < 0), number.unsigned_abs() as u64)
+        }
     }
 
     fn call(&self, source: &[u8], count: usize, handling: u32) -> ([u64; 8], Vec<u8>) {
