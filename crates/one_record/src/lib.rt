@@ -9,10 +9,12 @@ ghost use Rattle.table.specs.Table.{layoutAt};
 ghost use Rattle.plans.specs.PlanWords.{wordsPlace, Pair, pairBecomes, Ready, entriesOf};
 ghost use Rattle.entry_code.specs.Code.{routeIn};
 ghost use Rattle.plans.specs.PlanEntries.{EntryReady, raisingOf};
+ghost use Rattle.plans.specs.LeafSteps.{realBecomes};
 use easy::at;
 use easy::convert_easy;
 use entry_code::GENERAL;
 use entry_code::REAL;
+use entry_code::SECOND;
 use entry_code::SPAN;
 use entry_code::SPAN_LE;
 use entry_code::route_in;
@@ -28,6 +30,7 @@ use plans::NAMES;
 use plans::PlanEntry;
 use plans::Raising;
 use real_leaf::convert_real;
+use real_leaf::convert_real_fast;
 use real_leaf::real_kind;
 
 // Where the words of entry i begin.
@@ -36,6 +39,37 @@ fn words_of(i: usize) -> usize
     ensures { λ r. ⌜ r ≡ wordsPlace i ⌝ }
 {
     NAMES + ENTRY_WORDS * i
+}
+
+// Converts the leaf of entry i, which is e, where one of its types is a real: by its words where they say all and eight bytes can be read. The kind of exception is returned.
+fn write_real(
+    src: &[u8],
+    dst: &mut [u8],
+    e: PlanEntry,
+    i: usize,
+    source_half: &[u32],
+    destination_half: &[u32],
+    words: &[u32],
+) -> u32
+    requires { ⌜ EntryReady (length (now src)) (length (now dst)) e i (now «source_half») (now «destination_half») (now words) × (i < 4096) × (routeIn (getD (now words) (wordsPlace i) 0) ≡ 3) ⌝ }
+    ensures { λ r. ⌜ (r ≡ realBecomes (now («source_half» .entry)) (e .source) (now («destination_half» .entry)) (e .destination) (e .from) (now (src .entry)) .kind) × (now (dst .exit) ≡ stored (layoutAt (now («destination_half» .entry)) (e .destination)) (e .to) (realBecomes (now («source_half» .entry)) (e .source) (now («destination_half» .entry)) (e .destination) (e .from) (now (src .entry)) .raw) (now (dst .entry))) ⌝ }
+{
+    let place = words_of(i);
+    if at(words, place + SECOND) != 0 {
+        if 8 <= src.len() - e.from {
+            return convert_real_fast(src, dst, e.to, e.from, words, place);
+        }
+    }
+    convert_real(
+        src,
+        dst,
+        e.to,
+        e.from,
+        e.source,
+        e.destination,
+        source_half,
+        destination_half,
+    )
 }
 
 // Converts the leaf of entry i, which is e and no enum: by its words where it is easy and eight bytes can be read. The kind of exception is returned.
@@ -54,16 +88,7 @@ fn write_number(
     let place = words_of(i);
     let route = route_in(at(words, place));
     if route == REAL {
-        return convert_real(
-            src,
-            dst,
-            e.to,
-            e.from,
-            e.source,
-            e.destination,
-            source_half,
-            destination_half,
-        );
+        return write_real(src, dst, e, i, source_half, destination_half, words);
     }
     if route != GENERAL {
         if 8 <= src.len() - e.from {

@@ -1,19 +1,22 @@
 // The four words by which the leaf of an entry is converted, for one pair of types, and the span of its enums.
 ghost use mathlib.Core.Path.{_≡_};
-ghost use Prim.Native.Nat.{_+_, _≤_};
+ghost use mathlib.Core.Bool.{cond, _&&_};
+ghost use Prim.Native.Nat.{_+_, _*_, _≤_, _<_};
+ghost use lib.Dec.{eqb};
 ghost use lib.ListN.{length};
 ghost use Rattle.layout.specs.Layout.{Valid};
 ghost use Rattle.table.specs.Table.{classWord, layoutAt};
 ghost use Rattle.table.specs.Records.{orderCode};
 ghost use Rattle.entry_code.specs.Code.{packed};
 ghost use Rattle.easy.specs.Easy.{shiftOf, withWords};
-ghost use Rattle.plans.specs.PlanWords.{oneReal};
-ghost use Rattle.plans.specs.PlanEntries.{PairFormed, plainWords, EntryPut};
+ghost use Rattle.plans.specs.PlanWords.{isReal, oneReal};
+ghost use Rattle.plans.specs.PlanEntries.{PairFormed, realWords, plainWords, EntryPut};
 ghost use Rattle.plans.specs.Spans.{SpanWord, EntryRoom};
 use bits::bits_of;
 use easy::put_four;
 use easy::put_words;
 use easy::shift_of;
+use entry_code::EASY_LE;
 use entry_code::LOOKED_UP;
 use entry_code::REAL;
 use entry_code::SPAN;
@@ -25,9 +28,21 @@ use enum_spans::span_of;
 use layout::Layout;
 use table::CLASS;
 use table::ENUM;
+use table::codes::flag_code;
 use table::codes::order_code;
 use table::read::layout_at;
 use table::read::type_word;
+
+// The packed word of an entry from l to m, of this route.
+fn route_word(route: u32, l: Layout, m: Layout) -> u32
+    requires { ⌜ (route < 8) × Valid l × Valid m ⌝ }
+    ensures { λ r. ⌜ r ≡ packed route (shiftOf (l .order) (l .size .0) (l .offset .0)) (l .precision) (m .size .0) (orderCode (m .order)) (m .precision) ⌝ }
+{
+    let to = m.order;
+    let shift = shift_of(l);
+    let size = m.size.0 as u32;
+    pack(route, shift, l.precision, size, order_code(to), m.precision)
+}
 
 // The packed word of two enums that go by a span, where m has no bits beside its number.
 fn fast_word(l: Layout, m: Layout) -> u32
@@ -35,17 +50,7 @@ fn fast_word(l: Layout, m: Layout) -> u32
     ensures { λ r. ⌜ r ≡ packed (4 + orderCode (l .order)) (shiftOf (l .order) (l .size .0) (l .offset .0)) (l .precision) (m .size .0) (orderCode (m .order)) (m .precision) ⌝ }
 {
     let from = l.order;
-    let to = m.order;
-    let shift = shift_of(l);
-    let size = m.size.0 as u32;
-    pack(
-        SPAN_LE as u32 + order_code(from),
-        shift,
-        l.precision,
-        size,
-        order_code(to),
-        m.precision,
-    )
+    route_word(SPAN_LE as u32 + order_code(from), l, m)
 }
 
 // The packed word of any two enums that go by a span.
@@ -104,6 +109,13 @@ fn put_enum(
     free + count as usize
 }
 
+// The type is a real.
+fn is_real(half: &[u32], k: usize) -> bool
+    ensures { λ r. ⌜ r ≡ isReal (now (half .entry)) k ⌝ }
+{
+    type_word(half, k, CLASS) == table::REAL
+}
+
 // Of the two types, one is a real and the other is none.
 fn is_one_real(
     source_half: &[u32],
@@ -122,6 +134,45 @@ fn is_one_real(
     }
 }
 
+// Whether m has no bits beside its number.
+fn is_whole(m: Layout) -> bool
+    requires { ⌜ Valid m ⌝ }
+    ensures { λ r. ⌜ r ≡ (eqb (m .offset .0) 0 && eqb (m .precision) (8 * m .size .0)) ⌝ }
+{
+    if m.offset.0 != 0 {
+        return false;
+    }
+    m.precision == bits_of(m.size).0
+}
+
+// The sign of the int, where one of l and m is a real's: the source's or not.
+fn sign_beside(l: Layout, m: Layout, from_real: bool) -> bool
+    ensures { λ r. ⌜ r ≡ cond «from_real» (m .signed) (l .signed) ⌝ }
+{
+    if from_real { m.signed } else { l.signed }
+}
+
+// The words of an entry from l to m, where one of them is a real's: the source's or not.
+fn put_real(words: &mut [u32], place: usize, l: Layout, m: Layout, from_real: bool)
+    requires { ⌜ Valid l × Valid m × (place + 4 ≤ length (now words)) ⌝ }
+    ensures { λ _. ⌜ now (words .exit) ≡ withWords (now (words .entry)) place (realWords l m «from_real») ⌝ }
+{
+    if is_whole(m) {
+        let code = route_word(REAL as u32, l, m);
+        let order = l.order;
+        put_four(
+            words,
+            place,
+            code,
+            EASY_LE as u32 + order_code(order),
+            flag_code(from_real),
+            flag_code(sign_beside(l, m, from_real)),
+        );
+        return;
+    }
+    put_four(words, place, REAL as u32, 0, 0, 0);
+}
+
 // The words of an entry from the source type to a destination type that is no enum, from word `place` on.
 fn put_plain(
     words: &mut [u32],
@@ -131,20 +182,17 @@ fn put_plain(
     source_half: &[u32],
     destination_half: &[u32],
 )
-    requires { ⌜ place + 4 ≤ length (now words) ⌝ }
+    requires { ⌜ Valid (layoutAt (now «source_half») «source_type») × Valid (layoutAt (now «destination_half») «destination_type») × (place + 4 ≤ length (now words)) ⌝ }
     ensures { λ _. ⌜ now (words .exit) ≡ withWords (now (words .entry)) place (plainWords (now («source_half» .entry)) «source_type» (now («destination_half» .entry)) «destination_type») ⌝ }
 {
+    let l = layout_at(source_half, source_type);
+    let m = layout_at(destination_half, destination_type);
     if is_one_real(source_half, source_type, destination_half, destination_type) {
-        put_four(words, place, REAL as u32, 0, 0, 0);
+        let from_real = is_real(source_half, source_type);
+        put_real(words, place, l, m, from_real);
         return;
     }
-    let l = layout_at(source_half, source_type);
-    put_words(
-        words,
-        place,
-        l,
-        layout_at(destination_half, destination_type),
-    );
+    put_words(words, place, l, m);
 }
 
 // The words of an entry from the source type to the destination type, from word `place` on, and the span of an enum from word `free` on. The next free word is returned.

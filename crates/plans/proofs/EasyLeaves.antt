@@ -17,7 +17,7 @@ use Rattle.table.specs.Words.{Reads}
 use Rattle.entry_code.specs.Code.{routeIn}
 use Rattle.easy.specs.Words.{EasyAt}
 use Rattle.easy.proofs.Easy.{number}
-use Rattle.plans.specs.PlanWords.{oneReal, wordsPlace, Pair, pairBecomes}
+use Rattle.plans.specs.PlanWords.{isReal, oneReal, wordsPlace, Pair, pairBecomes, RealAt}
 use Rattle.plans.specs.PlanEntries.{EntryReady}
 use Rattle.plans.specs.declared.PlanEntry.{PlanEntry}
 use Rattle.plans.specs.LeafSteps.{EnumReady, EnumHere, realBecomes, RealReady}
@@ -107,6 +107,22 @@ module _ {n m : ℕ} {e : PlanEntry} {i : ℕ} {ws wd words : List ℕ} (h : Ent
   pub enum-became : (src dst out : List ℕ) {kind : ℕ} → Became (e .source) (e .destination) ws wd words k (e .from) (e .to) src dst out kind
       → Became (e .source) (e .destination) ws wd words (wordsPlace i) (e .from) (e .to) src dst out kind
   enum-became src dst out {kind} g = subst (λ (x : ℕ). Became (e .source) (e .destination) ws wd words x (e .from) (e .to) src dst out kind) here g
+
+-- the same by the route alone
+module _ {n m : ℕ} {e : PlanEntry} {i : ℕ} {ws wd words : List ℕ} (h : EntryReady n m e i ws wd words) (is : routeIn (getD words (wordsPlace i) 0) ≡ 3) where
+  pub real-here : RealReady n (e .from) (e .source) (e .destination) ws wd
+  real-here = real-ready n (e .from) (e .source) (e .destination) ws wd words (wordsPlace i) (h .pair) (h .pair .entry .mixed is) (h .read)
+
+  -- its words begin at word k
+  module _ {k : ℕ} (here : k ≡ wordsPlace i) where
+    pub real-room : k + 4 ≤ length words
+    real-room = rw here (h .room)
+
+    -- the second of them is y
+    pub real-at : {y : ℕ} → Reads (getD words (k + 1) 0) y → (y ≡ 0 → ⊥) → RealAt (layoutAt ws (e .source)) (layoutAt wd (e .destination)) (isReal ws (e .source)) words k
+    real-at {y} second some =
+        let more : 1 ≤ getD words (k + 1) 0 = rw (← (second .is)) (omega arith) in
+        rw here (h .pair .entry .real is (rw here at more))
 
 -- the layouts of an entry are valid
 pub both-valid : {n m : ℕ} {e : PlanEntry} {i : ℕ} {ws wd words : List ℕ} → EntryReady n m e i ws wd words

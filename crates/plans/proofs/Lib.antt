@@ -4,4 +4,5 @@ pub mod Entries
 pub mod OneEntry
 pub mod Spans
 pub mod EnumWords
+pub mod RealWords
 pub mod EasyLeaves

@@ -27,17 +27,18 @@ use Rattle.datatype.specs.WellFormed.{WellFormedLeaf, Symbols}
 use Rattle.datatype.proofs.Tests.{sameNumber→eq}
 use Rattle.table.specs.declared.Found.{Found}
 use Rattle.table.specs.declared.Found.the-variants.{At, Missing}
-use Rattle.table.specs.Table.{rowWord, classWord, firstWord, rowsWord, layoutAt, bytesAt, nameAt, valueAt, symbolsAt}
+use Rattle.table.specs.Table.{rowWord, classWord, firstWord, rowsWord, flagOf, layoutAt, bytesAt, nameAt, valueAt, symbolsAt}
 use Rattle.table.specs.Words.{Reads}
 use Rattle.table.specs.Records.{orderCode}
+use Rattle.table.proofs.Coded.{flag-back}
 use Rattle.table.specs.Rows.{rowNamed, rowNumbered}
 use Rattle.entry_code.specs.Code.{packed, routeIn, shiftIn, precisionIn, sizeIn, orderIn, bitsIn}
 use Rattle.entry_code.proofs.Packed.{route-back, shift-back, precision-back, size-back, order-back, bits-back}
 use Rattle.easy.specs.Easy.{easy, shiftOf, easyWords, withWords, wordsOf}
 use Rattle.easy.proofs.Easy.{shift-small, order-small}
 use Rattle.easy.proofs.Words.{words-length, words-below, words-above, words-at, easy-stands, easy-route}
-use Rattle.plans.specs.PlanWords.{RowsWithin, symbolRows, numberRow, rowCode, namedCode, translatedCode, sourceType, destinationType, wordsPlace, oneReal, spanCode, EnumAt}
-use Rattle.plans.specs.PlanEntries.{PairFormed, plainWords, Standing, EntryPut}
+use Rattle.plans.specs.PlanWords.{RowsWithin, symbolRows, numberRow, rowCode, namedCode, translatedCode, sourceType, destinationType, wordsPlace, isReal, oneReal, spanCode, EnumAt, RealAt}
+use Rattle.plans.specs.PlanEntries.{PairFormed, wholeWords, realWords, plainWords, Standing, EntryPut}
 use Rattle.plans.specs.Spans.{RowsIn, SymbolsFormed, SpanOf, SpanPut, SpanWord, EntryRoom, AllStanding}
 use Rattle.plans.proofs.Names.{numbered-within, named-within}
 use Rattle.plans.proofs.LeafSteps.{leaf-enum, leaf-valid, inside-bits}
@@ -213,6 +214,24 @@ enum-moved l m v w k h first e =
       bits = ap bitsIn first ∙ e .bits;
     }
 
+real-moved : (l m : Layout) (real : Bool) (v w : List ℕ) (k h : ℕ) → getD v k 0 ≡ getD w h 0 → getD v (k + 1) 0 ≡ getD w (h + 1) 0 → getD v (k + 2) 0 ≡ getD w (h + 2) 0
+    → getD v (k + 3) 0 ≡ getD w (h + 3) 0 → RealAt l m real w h → RealAt l m real v k
+real-moved l m real v w k h first second third fourth e =
+    record {
+      source = e .source;
+      destination = e .destination;
+      lowest = e .lowest;
+      whole = e .whole;
+      shift = ap shiftIn first ∙ e .shift;
+      precision = ap precisionIn first ∙ e .precision;
+      size = ap sizeIn first ∙ e .size;
+      destinationOrder = ap orderIn first ∙ e .destinationOrder;
+      bits = ap bitsIn first ∙ e .bits;
+      order = second ∙ e .order;
+      from = ap flagOf third ∙ e .from;
+      sign = ap flagOf fourth ∙ e .sign;
+    }
+
 -- what stands from word h of w on stands from word k of v on, where the entry's words are the same, and the words of spans
 module _ (v w : List ℕ) (k h start free : ℕ) (same : (q : ℕ) → q < 4 → getD v (k + q) 0 ≡ getD w (h + q) 0) (kept : (j : ℕ) → start ≤ j → j < free → getD v j 0 ≡ getD w j 0) where
   first : getD v k 0 ≡ getD w h 0
@@ -242,6 +261,10 @@ module _ (v w : List ℕ) (k h start free : ℕ) (same : (q : ℕ) → q < 4 →
               plain = λ low. x .entry .plain (rw first at low);
               alike = λ low. x .entry .alike (rw first at low);
               mixed = λ is. x .entry .mixed (rw first at is);
+              real =
+                  λ is some.
+                  real-moved (layoutAt ws s) (layoutAt wd d) (isReal ws s) v w k h first (same 1 (omega arith)) (same 2 (omega arith)) (same 3 (omega arith))
+                  (x .entry .real (rw first at is) (rw (same 1 (omega arith)) at some));
               easy = λ some low. rw (first, same 1 (omega arith), same 2 (omega arith)) (x .entry .easy (rw first at some) (rw first at low));
               enum = λ high. x .entry .enum (rw first at high);
               fast = λ high low. enum-moved (layoutAt ws s) (layoutAt wd d) v w k h first (x .entry .fast (rw first at high) (rw first at low));
@@ -301,6 +324,7 @@ put-alike before k free ws ts wd td s d room not alike h =
                   plain = λ low. not;
                   alike = λ low. alike;
                   mixed = λ is. absurd (omega (arith, route));
+                  real = λ is some. absurd (omega (arith, route));
                   easy = λ some low. easy-stands (layoutAt ws s) (layoutAt wd d) before k fits (λ z. omega (arith, z));
                   enum = λ high. absurd (omega (arith, route));
                   fast = λ high low. absurd (omega (arith, route));
@@ -314,13 +338,62 @@ put-alike before k free ws ts wd td s d room not alike h =
       long = words-length (easyWords (layoutAt ws s) (layoutAt wd d)) before k;
     })
 
+route-three : routeIn 3 ≡ 3
+unfolding routeIn
+route-three = omega arith
+
+-- the words of a real and another leaf
+real-four : (l m : Layout) (real : Bool) → length (realWords l m real) ≡ 4
+unfolding realWords
+real-four l m real = go (eqb (m .offset .0) 0 && eqb (m .precision) (8 * m .size .0))
+  where
+    go : (t : Bool) → length (cond t (wholeWords l m real) (3 ∷ 0 ∷ 0 ∷ 0 ∷ [])) ≡ 4
+    go true = refl
+    go false = refl
+
+real-stands : (l m : Layout) (real : Bool) → Valid l → Valid m → (routeIn (getD (realWords l m real) 0 0) ≡ 3) × (1 ≤ getD (realWords l m real) 1 0 → RealAt l m real (realWords l m real) 0)
+unfolding realWords
+real-stands l m real v u = go (eqb (m .offset .0) 0 && eqb (m .precision) (8 * m .size .0)) refl
+  where
+    go : (t : Bool) → (eqb (m .offset .0) 0 && eqb (m .precision) (8 * m .size .0)) ≡ t
+        → (routeIn (getD (cond t (wholeWords l m real) (3 ∷ 0 ∷ 0 ∷ 0 ∷ [])) 0 0) ≡ 3)
+        × (1 ≤ getD (cond t (wholeWords l m real) (3 ∷ 0 ∷ 0 ∷ 0 ∷ [])) 1 0 → RealAt l m real (cond t (wholeWords l m real) (3 ∷ 0 ∷ 0 ∷ 0 ∷ [])) 0)
+    go true e =
+        let r : 3 < 8 = omega arith in
+        let s = shift-small (l .order) (l .size .0) (l .offset .0) (l .precision) (v .sized) (v .some) (v .inside) in
+        let p : l .precision < 128 = omega (arith, v .most) in
+        let z : m .size .0 < 16 = omega (arith, u .sized) in
+        let o : orderCode (m .order) < 2 = omega (arith, order-small (m .order)) in
+        let b = both (eqb (m .offset .0) 0) (eqb (m .precision) (8 * m .size .0)) e in (
+          route-back _ _ _ _ _ (m .precision) r s p z o,
+          λ some.
+              record {
+                source = v;
+                destination = u;
+                lowest = eqb-true (m .offset .0) 0 (b .0);
+                whole = eqb-true (m .precision) (8 * m .size .0) (b .1);
+                shift = shift-back _ _ _ _ _ (m .precision) r s p z o;
+                precision = precision-back _ _ _ _ _ (m .precision) r s p z o;
+                size = size-back _ _ _ _ _ (m .precision) r s p z o;
+                destinationOrder = order-back _ _ _ _ _ (m .precision) r s p z o;
+                bits = bits-back _ _ _ _ _ (m .precision) r s p z o;
+                order = refl;
+                from = flag-back real;
+                sign = flag-back (cond real (m .signed) (l .signed));
+              },
+        )
+    go false e = (route-three, λ some. absurd (omega (arith, some)))
+
 -- a real and another leaf
 put-mixed : (before : List ℕ) (k free : ℕ) (ws ts wd td : List ℕ) (s d : ℕ) {after : List ℕ} → EntryRoom (length before) k free → (classWord wd d ≡ 2 → ⊥) → oneReal ws s wd d ≡ true
-    → after ≡ withWords before k (3 ∷ 0 ∷ 0 ∷ 0 ∷ []) → EntryPut before k free free ws ts wd td s d after free
-unfolding routeIn
-put-mixed before k free ws ts wd td s d room not mixed h =
+    → (xs : List ℕ) → length xs ≡ 4 → (routeIn (getD xs 0 0) ≡ 3) × (1 ≤ getD xs 1 0 → RealAt (layoutAt ws s) (layoutAt wd d) (isReal ws s) xs 0)
+    → after ≡ withWords before k xs → EntryPut before k free free ws ts wd td s d after free
+put-mixed before k free ws ts wd td s d room not mixed xs four stands h =
     let fits : k + 4 ≤ length before = omega (arith, room .before, room .within) in
-    let route : routeIn (getD (withWords before k (3 ∷ 0 ∷ 0 ∷ 0 ∷ [])) k 0) ≡ 3 = rw (put-first before 3 (0 ∷ 0 ∷ 0 ∷ []) k refl fits) in
+    let word : (q : ℕ) → q < 4 → getD (withWords before k xs) (k + q) 0 ≡ getD xs q 0 = λ q low. put-by before xs k q four fits low in
+    let z : k + 0 ≡ k = omega arith in
+    let first : getD (withWords before k xs) k 0 ≡ getD xs 0 0 = rw z at (word 0 (omega arith)) in
+    let route : routeIn (getD (withWords before k xs) k 0) ≡ 3 = ap routeIn first ∙ stands .0 in
     rw h (record {
       here =
           record {
@@ -329,6 +402,10 @@ put-mixed before k free ws ts wd td s d room not mixed h =
                   plain = λ low. not;
                   alike = λ low. absurd (omega (arith, route));
                   mixed = λ is. mixed;
+                  real =
+                      λ is some.
+                      real-moved (layoutAt ws s) (layoutAt wd d) (isReal ws s) (withWords before k xs) xs k 0 first (word 1 (omega arith)) (word 2 (omega arith)) (word 3 (omega arith))
+                      (stands .1 (rw (word 1 (omega arith)) at some));
                   easy = λ some low. absurd (omega (arith, route));
                   enum = λ high. absurd (omega (arith, route));
                   fast = λ high low. absurd (omega (arith, route));
@@ -337,23 +414,28 @@ put-mixed before k free ws ts wd td s d room not mixed h =
             bounds = λ high low. absurd (omega (arith, route));
           };
       grows = le-refl free;
-      below = λ j low. words-below (3 ∷ 0 ∷ 0 ∷ 0 ∷ []) before k j low;
-      between = λ j high low. words-above (3 ∷ 0 ∷ 0 ∷ 0 ∷ []) before k j high;
-      long = words-length (3 ∷ 0 ∷ 0 ∷ 0 ∷ []) before k;
+      below = λ j low. words-below xs before k j low;
+      between = λ j high low. words-above xs before k j (rw four high);
+      long = words-length xs before k;
     })
 
 -- a destination that is no enum
-pub put-plain : (before : List ℕ) (k free : ℕ) (ws ts wd td : List ℕ) (s d : ℕ) {after : List ℕ} {c : ℕ} → EntryRoom (length before) k free → Reads (classWord wd d) c → (c ≡ 2 → ⊥)
-    → after ≡ withWords before k (plainWords ws s wd d) → EntryPut before k free free ws ts wd td s d after free
+pub put-plain : (before : List ℕ) (k free : ℕ) (ws ts wd td : List ℕ) (s d : ℕ) {after : List ℕ} {c : ℕ} → EntryRoom (length before) k free → PairFormed ws ts wd td s d → Reads (classWord wd d) c
+    → (c ≡ 2 → ⊥) → after ≡ withWords before k (plainWords ws s wd d) → EntryPut before k free free ws ts wd td s d after free
 unfolding plainWords
-put-plain before k free ws ts wd td s d {after} room rc not h = go (oneReal ws s wd d) refl h
+put-plain before k free ws ts wd td s d {after} room formed rc not h = go (oneReal ws s wd d) refl h
   where
     no-enum : classWord wd d ≡ 2 → ⊥
     no-enum is = not (rc .is ∙ is)
 
-    go : (t : Bool) → oneReal ws s wd d ≡ t → after ≡ withWords before k (cond t (3 ∷ 0 ∷ 0 ∷ 0 ∷ []) (easyWords (layoutAt ws s) (layoutAt wd d)))
+    valid-both : Valid (layoutAt ws s) × Valid (layoutAt wd d)
+    valid-both = pair-valid ws ts wd td s d formed
+
+    go : (t : Bool) → oneReal ws s wd d ≡ t → after ≡ withWords before k (cond t (realWords (layoutAt ws s) (layoutAt wd d) (isReal ws s)) (easyWords (layoutAt ws s) (layoutAt wd d)))
         → EntryPut before k free free ws ts wd td s d after free
-    go true e g = put-mixed before k free ws ts wd td s d room no-enum e g
+    go true e g =
+        put-mixed before k free ws ts wd td s d room no-enum e (realWords (layoutAt ws s) (layoutAt wd d) (isReal ws s)) (real-four (layoutAt ws s) (layoutAt wd d) (isReal ws s))
+        (real-stands (layoutAt ws s) (layoutAt wd d) (isReal ws s) (valid-both .0) (valid-both .1)) g
     go false e g = put-alike before k free ws ts wd td s d room no-enum e g
 
 -- an enum whose rows are looked through
@@ -371,6 +453,7 @@ put-looked before k free ws ts wd td s d room is h =
                   plain = λ low. absurd (omega (arith, route));
                   alike = λ low. absurd (omega (arith, route));
                   mixed = λ is. absurd (omega (arith, route));
+                  real = λ is some. absurd (omega (arith, route));
                   easy = λ some low. absurd (omega (arith, route));
                   enum = λ high. is;
                   fast = λ high low. absurd (omega (arith, route));
@@ -432,6 +515,7 @@ put-spanned before k free ws ts wd td s d {mid} {after} {code} {n} {low} {count}
                   plain = λ less. absurd (omega (arith, packs .least, rw first at less));
                   alike = λ less. absurd (omega (arith, packs .least, rw first at less));
                   mixed = λ is. absurd (omega (arith, packs .least, rw first at is));
+                  real = λ is some. absurd (omega (arith, packs .least, rw first at is));
                   easy = λ some less. absurd (omega (arith, packs .least, rw first at less));
                   enum = λ more. is;
                   fast = λ more less. enum-moved (layoutAt ws s) (layoutAt wd d) after (code ∷ []) k 0 first (packs .fast (rw first at less));

@@ -1,11 +1,12 @@
 -- What the functions that convert one leaf promise of an enum's and of a real's number on its way. No meaning of document 01 stands here.
 use Prim.Native.Nat.{ℕ, zero, suc, _+_, _-_, _^_, _≤_, _<_}
 use mathlib.Core.Path.{_≡_}
-use mathlib.Core.Bool.{false, cond}
+use mathlib.Core.Bool.{Bool, false, cond}
 use mathlib.Core.List.{List}
 use lib.IntN.{ℤ}
 use lib.ListN.{getD, length}
 use Rattle.number.specs.declared.Fitted.{Fitted}
+use Rattle.layout.specs.declared.Layout.{Layout}
 use Rattle.layout.specs.Layout.{Valid}
 use Rattle.number.specs.Number.{numberAt, bitsOf}
 use Rattle.number.specs.Place.{rawAt}
@@ -44,9 +45,13 @@ pub record EnumHere (n m b a s d : ℕ) (ws wd words : List ℕ) (k : ℕ) : Typ
   pub enum : 4 ≤ routeIn (getD words k 0)
   pub fast : routeIn (getD words k 0) < 6
 
--- what the number of the leaf of type s at byte a of the record r becomes in type d, where one of the two is a real
+-- what the number of the leaf of layout l at byte a of the record r becomes in layout m, where one of the two is a real's, and the source's or not
+abbrev pub realOf : Bool → Layout → Layout → ℕ → List ℕ → Fitted
+realOf real l m a r = cond real (realToInt m (rawAt l a r)) (intToReal (numberAt l a r))
+
+-- the same from type s to type d
 unfoldable pub realBecomes : List ℕ → ℕ → List ℕ → ℕ → ℕ → List ℕ → Fitted
-realBecomes ws s wd d a r = cond (isReal ws s) (realToInt (layoutAt wd d) (rawAt (layoutAt ws s) a r)) (intToReal (numberAt (layoutAt ws s) a r))
+realBecomes ws s wd d a r = realOf (isReal ws s) (layoutAt ws s) (layoutAt wd d) a r
 
 -- the leaf of type s at byte a of n bytes on its way to type d, where one of the two is a real
 pub record RealReady (n a s d : ℕ) (ws wd : List ℕ) : Type 0 where

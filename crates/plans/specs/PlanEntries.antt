@@ -1,19 +1,22 @@
 -- What the functions that make and read the entries of a plan promise, and the answer of a scan. No meaning of document 01 stands here.
 use mathlib.Core.Path.{_≡_}
-use mathlib.Core.Bool.{cond}
+use mathlib.Core.Bool.{Bool, cond, _&&_}
 use mathlib.Core.List.{List, [], _∷_}
-use Prim.Native.Nat.{ℕ, _+_, _≤_, _<_}
+use Prim.Native.Nat.{ℕ, _+_, _*_, _≤_, _<_}
+use lib.Dec.{eqb}
 use lib.ListN.{getD, length}
+use Rattle.layout.specs.declared.Layout.{Layout}
 use Rattle.datatype.specs.WellFormed.{WellFormedLeaf}
 use Rattle.table.specs.Table.{layoutAt}
-use Rattle.entry_code.specs.Code.{routeIn}
+use Rattle.table.specs.Records.{orderCode, flagCode}
+use Rattle.entry_code.specs.Code.{packed, routeIn}
 use Rattle.plans.specs.declared.PlanEntry.{PlanEntry}
 use Rattle.plans.specs.declared.Raising.{Raising}
 use Rattle.plans.specs.declared.Raising.the-variants.{At, Nowhere}
 use Rattle.records.specs.Plan.{Raised}
 use Rattle.records.specs.Plan.Raised.{nowhere, at}
-use Rattle.easy.specs.Easy.{easyWords}
-use Rattle.plans.specs.PlanWords.{leafOfType, RowsWithin, oneReal, toByte, fromByte, sourceType, destinationType, wordsPlace, EntryWords, NamesAt, Pair}
+use Rattle.easy.specs.Easy.{shiftOf, easyWords}
+use Rattle.plans.specs.PlanWords.{leafOfType, RowsWithin, isReal, oneReal, toByte, fromByte, sourceType, destinationType, wordsPlace, EntryWords, NamesAt, Pair}
 
 abbrev pub wordsAt : List ℕ → ℕ → PlanEntry
 wordsAt plan i = record { to = toByte plan i; from = fromByte plan i; source = sourceType plan i; destination = destinationType plan i }
@@ -39,9 +42,19 @@ pub record PairFormed (ws ts wd td : List ℕ) (s d : ℕ) : Type 0 where
   pub sourceRows : RowsWithin ws s
   pub destinationRows : RowsWithin wd d
 
--- those of an entry to a type that is no enum: the route alone between a real and another leaf, else what the two layouts give
+-- those of an entry from layout l to layout m, of which one is a real's, and the source's or not: where m has no bits beside its number
+abbrev pub wholeWords : Layout → Layout → Bool → List ℕ
+wholeWords l m real =
+    packed 3 (shiftOf (l .order) (l .size .0) (l .offset .0)) (l .precision) (m .size .0) (orderCode (m .order)) (m .precision)
+    ∷ (1 + orderCode (l .order)) ∷ flagCode real ∷ flagCode (cond real (m .signed) (l .signed)) ∷ []
+
+-- and for any m: the route alone where m has such bits
+unfoldable pub realWords : Layout → Layout → Bool → List ℕ
+realWords l m real = cond (eqb (m .offset .0) 0 && eqb (m .precision) (8 * m .size .0)) (wholeWords l m real) (3 ∷ 0 ∷ 0 ∷ 0 ∷ [])
+
+-- those of an entry to a type that is no enum
 unfoldable pub plainWords : List ℕ → ℕ → List ℕ → ℕ → List ℕ
-plainWords ws s wd d = cond (oneReal ws s wd d) (3 ∷ 0 ∷ 0 ∷ 0 ∷ []) (easyWords (layoutAt ws s) (layoutAt wd d))
+plainWords ws s wd d = cond (oneReal ws s wd d) (realWords (layoutAt ws s) (layoutAt wd d) (isReal ws s)) (easyWords (layoutAt ws s) (layoutAt wd d))
 
 -- the words of an entry, whose span lies between `start` and `free`
 pub record Standing (words : List ℕ) (k start free : ℕ) (ws ts wd td : List ℕ) (s d : ℕ) : Type 0 where

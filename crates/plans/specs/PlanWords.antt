@@ -15,7 +15,7 @@ use Rattle.datatype.specs.Datatype.{Leaf, Datatype, size, same}
 use Rattle.datatype.specs.WellFormed.{WellFormedLeaf, WellFormed}
 use Rattle.table.specs.declared.Found.{Found}
 use Rattle.table.specs.declared.Found.the-variants.{At, Missing}
-use Rattle.table.specs.Table.{classWord, firstWord, rowsWord, layoutAt, nameAt}
+use Rattle.table.specs.Table.{classWord, firstWord, rowsWord, flagOf, layoutAt, nameAt}
 unfoldable pub use Rattle.table.specs.Table.{leafOfType}
 use Rattle.table.specs.Records.{orderCode}
 use Rattle.table.specs.Rows.{rowNamed, rowNumbered}
@@ -125,12 +125,29 @@ pub record EnumAt (l m : Layout) (words : List ℕ) (k : ℕ) : Type 0 where
   pub destinationOrder : orderIn (getD words k 0) ≡ orderCode (m .order)
   pub bits : bitsIn (getD words k 0) ≡ m .precision
 
+-- the words of an entry from layout l to layout m, of which one is a real's, where m has no bits beside its number: the packed one, 1 or 2 by the source's order, whether the source is the real, and
+-- the sign of the other
+pub record RealAt (l m : Layout) (real : Bool) (words : List ℕ) (k : ℕ) : Type 0 where
+  pub source : Valid l
+  pub destination : Valid m
+  pub lowest : m .offset .0 ≡ 0
+  pub whole : m .precision ≡ 8 * m .size .0
+  pub shift : shiftIn (getD words k 0) ≡ shiftOf (l .order) (l .size .0) (l .offset .0)
+  pub precision : precisionIn (getD words k 0) ≡ l .precision
+  pub size : sizeIn (getD words k 0) ≡ m .size .0
+  pub destinationOrder : orderIn (getD words k 0) ≡ orderCode (m .order)
+  pub bits : bitsIn (getD words k 0) ≡ m .precision
+  pub order : getD words (k + 1) 0 ≡ 1 + orderCode (l .order)
+  pub from : flagOf (getD words (k + 2) 0) ≡ real
+  pub sign : flagOf (getD words (k + 3) 0) ≡ cond real (m .signed) (l .signed)
+
 -- the words of an entry from type s to type d say what its route needs
 pub record EntryWords (words : List ℕ) (k : ℕ) (ws ts wd td : List ℕ) (s d : ℕ) : Type 0 where
   pub plain : routeIn (getD words k 0) < 4 → classWord wd d ≡ 2 → ⊥
   pub alike : routeIn (getD words k 0) < 3 → oneReal ws s wd d ≡ false
   pub easy : 1 ≤ routeIn (getD words k 0) → routeIn (getD words k 0) < 3 → EasyAt (layoutAt ws s) (layoutAt wd d) words k
   pub mixed : routeIn (getD words k 0) ≡ 3 → oneReal ws s wd d ≡ true
+  pub real : routeIn (getD words k 0) ≡ 3 → 1 ≤ getD words (k + 1) 0 → RealAt (layoutAt ws s) (layoutAt wd d) (isReal ws s) words k
   pub enum : 4 ≤ routeIn (getD words k 0) → classWord wd d ≡ 2
   pub fast : 4 ≤ routeIn (getD words k 0) → routeIn (getD words k 0) < 6 → EnumAt (layoutAt ws s) (layoutAt wd d) words k
   pub span : 4 ≤ routeIn (getD words k 0) → routeIn (getD words k 0) < 7 → SpanAt words k ws ts wd td s d

@@ -1,16 +1,17 @@
 -- `one_record::write_number` meets its contract. Assumes nothing.
+use mathlib.Core.Path.{_∙_}
 use native.Mathlib.Omega.{arith}
 use borrow.Author.Needs.{needs}
-use Rattle.plans.proofs.EasyLeaves.{route-is, easy-at, words-room, easy-became, real-asked, real-became, number-became, both-valid}
+use Rattle.plans.proofs.EasyLeaves.{route-is, easy-at, words-room, easy-became, real-became, number-became, both-valid}
 use Rattle.one_record.proofs.write_number.Statement.{statement}
 use Rattle.one_record.proofs.write_number.Tie as tie
 
-convert-real-requires : tie.Need-convert-real-requires
-convert-real-requires c κs =
+write-real-requires : tie.Need-write-real-requires
+write-real-requires c κs =
     let t = c .before in
     let r = t .before in
     let x = r .before .before .before .before .before .before .before .before in
-    (real-asked (x .pre .0) (r .before .before .words-of .ensures) (r .before .at .ensures) (r .route-in .ensures) (t .if1 .taken), x .pre .0 .write)
+    (x .pre .0, x .pre .1, route-is (x .pre .0) (r .before .before .words-of .ensures) (r .before .at .ensures) (r .route-in .ensures) ∙ t .if1 .taken)
 
 returns : tie.Need-returns
 returns c =
@@ -18,7 +19,7 @@ returns c =
     let t = call .before .before in
     let r = t .before in
     let x = r .before .before .before .before .before .before .before .before in
-    real-became (x .pre .0) (r .before .before .words-of .ensures) (r .before .at .ensures) (r .route-in .ensures) (t .if1 .taken) _ _ _ (call .convert-real .ensures)
+    real-became (x .pre .0) (r .before .before .words-of .ensures) (r .before .at .ensures) (r .route-in .ensures) (t .if1 .taken) _ _ _ (call .write-real .ensures)
 
 convert-easy-requires : tie.Need-convert-easy-requires
 convert-easy-requires c κs =
@@ -67,7 +68,7 @@ write-number-spec =
     (λ c κs. search needs)
     (λ c κs. search needs)
     (λ c κs. search needs)
-    convert-real-requires
+    write-real-requires
     (λ c. search needs)
     returns
     (λ c. search needs)
