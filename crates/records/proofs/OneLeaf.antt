@@ -48,7 +48,7 @@ symbol-number l (s ∷ ss) z x f e = go (symbol-number l ss z x (f .1)) (sameNum
         rw (← i, same-refl (s .name), sameNumber→eq z (s .number) q)
     go next false q g = later (same x (s .name)) refl (next g)
 
-number-symbol : (l : Layout) (ss : List Symbol) (z : ℤ) (x : List ℕ) → Symbols l ss → numberOf x ss ≡ some z → symbolOf z ss ≡ some x
+pub number-symbol : (l : Layout) (ss : List Symbol) (z : ℤ) (x : List ℕ) → Symbols l ss → numberOf x ss ≡ some z → symbolOf z ss ≡ some x
 unfolding symbolOf numberOf
 number-symbol l [] z x f e = nothing e
 number-symbol l (s ∷ ss) z x f e = go (number-symbol l ss z x (f .1)) (same x (s .name)) refl e

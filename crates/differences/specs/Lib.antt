@@ -1,0 +1,4 @@
+pub mod Same
+pub mod Differences
+pub mod Call
+pub mod Says
