@@ -1,1 +1,3 @@
 pub mod Promises
+pub mod Turns
+pub mod Demand1
