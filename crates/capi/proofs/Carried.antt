@@ -7,7 +7,8 @@ use Rattle.answer.specs.declared.Answer.{Answer}
 use Rattle.runs.specs.Run.{Run, answer, after, tableAfter, Answers}
 use Rattle.answer_words.specs.AnswerWords.{Gives}
 use Rattle.reports.specs.Call.{Call, Reports}
-use Rattle.capi.specs.Calls.{Answered, Called, Converts, Reported}
+use Rattle.differences.specs.Call as compare
+use Rattle.capi.specs.Calls.{Answered, Called, Converts, Reported, Compared}
 
 module _ {a b : Answer} {lent table words : List ℕ} {r : ℕ} (e : b ≡ a) (t : table ≡ tableAfter b lent) (g : Gives b r words) where
   pub answered : Answered a lent r words table
@@ -24,3 +25,8 @@ converted h g = carried (h .answers) (h .clears) g (h .leaves)
 pub reported : {call : Call} {a : Answer} {log : List ℕ} {memory : List ℤ} {output table words : List ℕ} {r : ℕ} → Reports call a log memory output table → Gives a r words
     → Reported call r words log memory output table
 reported h g = record { answered = answered (h .answers) (h .clears) g; converts = h .converts; holds = h .holds; shows = h .shows }
+
+-- two logs compared
+pub compared : {call : compare.Call} {a : Answer} {list table words : List ℕ} {r : ℕ} → compare.Compares call a list table → Gives a r words
+    → Compared call r words list table
+compared h g = carried (h .answers) (h .clears) g (h .lists)

@@ -8,6 +8,7 @@ use Rattle.answer_words.specs.AnswerWords.{Gives}
 use Rattle.runs.specs.Run.{Run, answer, after, tableAfter}
 use Rattle.reports.specs.Call as report
 use Rattle.reports.specs.Call.{Call}
+use Rattle.differences.specs.Call as compare
 
 -- a call that answers a, and leaves the table as every call leaves it
 pub record Answered (a : Answer) (lent : List ℕ) (r : ℕ) (words table : List ℕ) : Type 0 where
@@ -29,3 +30,7 @@ pub record Reported (call : Call) (r : ℕ) (words log : List ℕ) (memory : Lis
   pub converts : log ≡ report.logAfter call
   pub holds : memory ≡ report.memoryAfter call
   pub shows : output ≡ report.outputAfter call
+
+-- a call that compares two logs
+abbrev pub Compared : compare.Call → ℕ → List ℕ → List ℕ → List ℕ → Type 0
+Compared call r words list table = Called (compare.answer call) (compare.listAfter call) (call .table) r words list table

@@ -3,7 +3,7 @@ ghost use lib.ListN.{length};
 ghost use Rattle.runs.specs.Run.{copyingRun, inPlaceRun, plain};
 ghost use Rattle.leaves.specs.Call.{answerOf as listAnswerOf, listAfter};
 ghost use Rattle.record_size.specs.RecordSize.{answerOf as sizeAnswerOf};
-ghost use Rattle.capi.specs.Calls.{Answered, Called, Converts, Reported};
+ghost use Rattle.capi.specs.Calls.{Answered, Called, Converts, Reported, Compared};
 use answer_words::give;
 
 pub mod setters;
@@ -156,5 +156,23 @@ pub extern "C" fn yirvagul_report(
         output,
         table,
     );
+    give(a, words)
+}
+
+// Compares two logs.
+#[no_mangle]
+pub extern "C" fn yirvagul_compare(
+    first_sheet: &[u8],
+    second_sheet: &[u8],
+    count: u64,
+    first: &[u8],
+    second: &[u8],
+    list: &mut [u8],
+    table: &mut [u32],
+    words: &mut [u64; 8],
+) -> u32
+    ensures { λ r. ⌜ Compared (record { firstSheet = now («first_sheet» .entry); secondSheet = now («second_sheet» .entry); count = count; first = now (first .entry); second = now (second .entry); list = now (list .entry); table = now (table .entry) }) r (now (words .exit)) (now (list .exit)) (now (table .exit)) ⌝ }
+{
+    let a = compare::compare(first_sheet, second_sheet, count, first, second, list, table);
     give(a, words)
 }

@@ -1,10 +1,11 @@
 // Checks 3 to 7 of a converting call: two sheets, the path between their types, the count and the room.
 ghost use mathlib.Core.Path.{_≡_};
-ghost use Prim.Native.Nat.{_≤_};
+ghost use mathlib.Core.List.{List};
+ghost use Prim.Native.Nat.{ℕ, _≤_};
 ghost use lib.ListN.{length};
 ghost use Rattle.runs.specs.Run.{hasRoom};
 ghost use Rattle.two_sheets.specs.TwoSheets.{ReadAs, Both};
-ghost use Rattle.conversion.specs.Call.{formOf, sourceOf, backgroundOf, TypesSay, SheetsSay};
+ghost use Rattle.conversion.specs.Call.{formOf, sourceOf, backgroundOf, RecordsSay, TypesSay, SheetsSay};
 use answer::Answer;
 use conversion::Checks;
 use path_search::has_path;
@@ -44,7 +45,39 @@ fn has_room(
     count * destination_size <= out
 }
 
-// Checks 5 to 7, of types that were read.
+// Checks 6 and 7, of types that were read.
+pub fn check_records(
+    in_place: bool,
+    count: u64,
+    out: usize,
+    other: usize,
+    source_half: &[u32],
+    source_type: usize,
+    destination_half: &[u32],
+    destination_type: usize,
+) -> Checks
+    requires { ⌜ ((ss : List ℕ) × (ds : List ℕ) × Both ss (now «source_half») «source_type» ds (now «destination_half») «destination_type») ⌝ }
+    ensures { λ r. ⌜ ((ss ds : List ℕ) → Both ss (now («source_half» .entry)) «source_type» ds (now («destination_half» .entry)) «destination_type» → RecordsSay «in_place» ss ds count out other (now («source_half» .entry)) «source_type» (now («destination_half» .entry)) «destination_type» r) ⌝ }
+{
+    if MOST_RECORDS < count {
+        return Checks::Refuse(Answer::Count);
+    }
+    let source_size = type_word(source_half, source_type, SIZE);
+    let destination_size = type_word(destination_half, destination_type, SIZE);
+    if !has_room(
+        in_place,
+        count as usize,
+        source_size,
+        destination_size,
+        out,
+        other,
+    ) {
+        return Checks::Refuse(Answer::Room);
+    }
+    Checks::Pass(source_type, destination_type)
+}
+
+// Checks 5 to 7: the path before them.
 pub fn check_types(
     in_place: bool,
     source_sheet: &[u8],
@@ -70,22 +103,16 @@ pub fn check_types(
     ) {
         return Checks::Refuse(Answer::Path);
     }
-    if MOST_RECORDS < count {
-        return Checks::Refuse(Answer::Count);
-    }
-    let source_size = type_word(source_half, source_type, SIZE);
-    let destination_size = type_word(destination_half, destination_type, SIZE);
-    if !has_room(
+    check_records(
         in_place,
-        count as usize,
-        source_size,
-        destination_size,
+        count,
         out,
         other,
-    ) {
-        return Checks::Refuse(Answer::Room);
-    }
-    Checks::Pass(source_type, destination_type)
+        source_half,
+        source_type,
+        destination_half,
+        destination_type,
+    )
 }
 
 // The same of types in the halves of the table.

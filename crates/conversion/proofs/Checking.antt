@@ -26,8 +26,8 @@ use Rattle.two_sheets.specs.TwoSheets.{first, second, IsSheet, ReadAs, SheetsRe
 use Rattle.two_sheets.proofs.Halves.{rest-is, types-both}
 use Rattle.conversion.specs.declared.Checks.{Checks}
 use Rattle.conversion.specs.declared.Checks.the-variants.{Refuse, Pass}
-use Rattle.conversion.specs.Call.{formOf, sourceOf, backgroundOf, HasRecords, ConvertsIn, sheetsChecked, typesChecked, Passes, TypesSay, SheetsSay}
-use Rattle.conversion.proofs.Parts.{no-path, many, no-room, all-pass, denied, granted, product-fits, copying-short, copying-small, copying-room, in-place-short, in-place-grown, in-place-small, in-place-room, source-faulty, destination-faulty, both-read}
+use Rattle.conversion.specs.Call.{formOf, sourceOf, backgroundOf, HasRecords, ConvertsIn, sheetsChecked, recordsChecked, typesChecked, Passes, RecordsSay, TypesSay, SheetsSay}
+use Rattle.conversion.proofs.Parts.{no-path, behind-path, many, no-room, all-pass, denied, granted, product-fits, copying-short, copying-small, copying-room, in-place-short, in-place-grown, in-place-small, in-place-room, source-faulty, destination-faulty, both-read}
 
 -- ---- room
 
@@ -97,37 +97,46 @@ module _ (b : Bool) (ss ds : List ℕ) (n out other : ℕ) (ws : List ℕ) (i : 
   abbrev D : Datatype
   D = typeAt wd ds k
 
+  pub refuse-count : 65536 < n → RecordsSay b ss ds n out other ws i wd k (Refuse answer.Count)
+  refuse-count g = many (formOf b) n (sourceOf b out other) (backgroundOf b out other) S D g
+
+  module _ (few : n ≤ 65536) {s d : ℕ} (rs : Reads (sizeWord ws i) s) (rd : Reads (sizeWord wd k) d) where
+    source-size : s ≡ size (typeAt ws ss i)
+    source-size = read-size ws ss i rs
+
+    destination-size : d ≡ size (typeAt wd ds k)
+    destination-size = read-size wd ds k rd
+
+    pub sizes-fit : (n ≤ 65536) × (s ≤ 4096) × (d ≤ 4096)
+    sizes-fit = (few, rw source-size (size-most S (types .source)), rw destination-size (size-most D (types .destination)))
+
+    module _ {r : Bool} (room : r ≡ hasRoom (formOf b) n s d (sourceOf b out other) (backgroundOf b out other)) where
+      pub refuse-room : not r ≡ true → RecordsSay b ss ds n out other ws i wd k (Refuse answer.Room)
+      refuse-room q = no-room (formOf b) n (sourceOf b out other) (backgroundOf b out other) S D few s d source-size destination-size (denied _ _ room q)
+
+      pub pass-records : not r ≡ false → RecordsSay b ss ds n out other ws i wd k (Pass i k)
+      pass-records q = (
+        refl,
+        refl,
+        all-pass (formOf b) n (sourceOf b out other) (backgroundOf b out other) S D few s d source-size destination-size (granted _ _ room q),
+        record {
+          types = types;
+          records = has-records b n (size S) (size D) out other few (rw (source-size, destination-size) at (granted _ _ room q));
+        },
+      )
+
   module _ {p : Bool} (path : p ≡ hasPath (typeAt ws ss i) (typeAt wd ds k)) where
     pub refuse-path : not p ≡ true → TypesSay b ss ds n out other ws i wd k (Refuse answer.Path)
     refuse-path h = no-path (formOf b) n (sourceOf b out other) (backgroundOf b out other) S D (denied _ _ path h)
 
-    pub refuse-count : not p ≡ false → 65536 < n → TypesSay b ss ds n out other ws i wd k (Refuse answer.Count)
-    refuse-count h g = many (formOf b) n (sourceOf b out other) (backgroundOf b out other) S D (granted _ _ path h) g
+    -- behind the path, the checks of the records are left
+    module _ (h : not p ≡ false) where
+      records-left : typesChecked b n out other (typeAt ws ss i) (typeAt wd ds k) ≡ recordsChecked b n out other (typeAt ws ss i) (typeAt wd ds k)
+      records-left = behind-path (formOf b) n (sourceOf b out other) (backgroundOf b out other) S D (granted _ _ path h)
 
-    module _ (h : not p ≡ false) (few : n ≤ 65536) {s d : ℕ} (rs : Reads (sizeWord ws i) s) (rd : Reads (sizeWord wd k) d) where
-      source-size : s ≡ size (typeAt ws ss i)
-      source-size = read-size ws ss i rs
-
-      destination-size : d ≡ size (typeAt wd ds k)
-      destination-size = read-size wd ds k rd
-
-      pub sizes-fit : (n ≤ 65536) × (s ≤ 4096) × (d ≤ 4096)
-      sizes-fit = (few, rw source-size (size-most S (types .source)), rw destination-size (size-most D (types .destination)))
-
-      module _ {r : Bool} (room : r ≡ hasRoom (formOf b) n s d (sourceOf b out other) (backgroundOf b out other)) where
-        pub refuse-room : not r ≡ true → TypesSay b ss ds n out other ws i wd k (Refuse answer.Room)
-        refuse-room q = no-room (formOf b) n (sourceOf b out other) (backgroundOf b out other) S D (granted _ _ path h) few s d source-size destination-size (denied _ _ room q)
-
-        pub pass-types : not r ≡ false → TypesSay b ss ds n out other ws i wd k (Pass i k)
-        pass-types q = (
-          refl,
-          refl,
-          all-pass (formOf b) n (sourceOf b out other) (backgroundOf b out other) S D (granted _ _ path h) few s d source-size destination-size (granted _ _ room q),
-          record {
-            types = types;
-            records = has-records b n (size S) (size D) out other few (rw (source-size, destination-size) at (granted _ _ room q));
-          },
-        )
+      pub types-say : (r : Checks) → RecordsSay b ss ds n out other ws i wd k r → TypesSay b ss ds n out other ws i wd k r
+      types-say (Refuse a) g = records-left ∙ g
+      types-say (Pass i′ k′) g = (g .0, g .1, records-left ∙ g .2, g .3)
 
 -- ---- sheets
 

@@ -29,7 +29,7 @@ use Rattle.loops.specs.declared.Stop.{Stop}
 use Rattle.loops.specs.declared.Stop.the-variants.{At, Nowhere}
 use Rattle.loops.specs.Stops as stops
 use Rattle.loops.specs.Stops.{stopBy}
-use Rattle.runs.specs.Run.{Form, Checked, handled, target, result, ifDone, hasRoom, stopFrom, typeChecks, sheetChecks}
+use Rattle.runs.specs.Run.{Form, Checked, handled, target, result, ifDone, hasRoom, stopFrom, recordChecks, typeChecks, sheetChecks}
 use Rattle.runs.specs.Run.Form.{copying, inPlace}
 use Rattle.runs.specs.Run.Checked.{refused, passed}
 use Rattle.conversion.specs.Call.{Leaves}
@@ -93,16 +93,19 @@ module _ (form : Form) (n x y : ℕ) (S D : Datatype) where
   pub no-path : hasPath S D ≡ false → typeChecks form n x y S D ≡ refused answer.Path
   no-path e = rw e refl
 
-  pub many : hasPath S D ≡ true → 65536 < n → typeChecks form n x y S D ≡ refused answer.Count
-  many e h = rw (e, lt-leb n 65536 h) refl
+  pub behind-path : hasPath S D ≡ true → typeChecks form n x y S D ≡ recordChecks form n x y S D
+  behind-path e = rw e refl
+
+  pub many : 65536 < n → recordChecks form n x y S D ≡ refused answer.Count
+  many h = rw (lt-leb n 65536 h) refl
 
   -- s and d are the sizes
-  module _ (path : hasPath S D ≡ true) (few : n ≤ 65536) (s d : ℕ) (source : s ≡ size S) (destination : d ≡ size D) where
-    pub no-room : hasRoom form n s d x y ≡ false → typeChecks form n x y S D ≡ refused answer.Room
-    no-room e = rw (path, le-leb n 65536 few, ← source, ← destination, e) refl
+  module _ (few : n ≤ 65536) (s d : ℕ) (source : s ≡ size S) (destination : d ≡ size D) where
+    pub no-room : hasRoom form n s d x y ≡ false → recordChecks form n x y S D ≡ refused answer.Room
+    no-room e = rw (le-leb n 65536 few, ← source, ← destination, e) refl
 
-    pub all-pass : hasRoom form n s d x y ≡ true → typeChecks form n x y S D ≡ passed S D
-    all-pass e = rw (path, le-leb n 65536 few, ← source, ← destination, e) refl
+    pub all-pass : hasRoom form n s d x y ≡ true → recordChecks form n x y S D ≡ passed S D
+    all-pass e = rw (le-leb n 65536 few, ← source, ← destination, e) refl
 
 -- ---- room
 

@@ -8,7 +8,7 @@ use Rattle.datatype.specs.Datatype.{Datatype, size}
 use Rattle.table.specs.Table.{typeAt}
 use Rattle.records.specs.Records.{readings, exceptions}
 use Rattle.two_sheets.specs.TwoSheets.{first, second, Both}
-use Rattle.runs.specs.Run.{Form, Checked, onChecked, handled, target, result, ifDone, typeChecks, sheetChecks}
+use Rattle.runs.specs.Run.{Form, Checked, onChecked, handled, target, result, ifDone, recordChecks, typeChecks, sheetChecks}
 use Rattle.runs.specs.Run.Form.{copying, inPlace}
 use Rattle.runs.specs.Run.Checked.{refused, passed}
 use Rattle.conversion.specs.declared.Checks.{Checks}
@@ -61,6 +61,9 @@ HasRecords true n s d out other = (n ≤ 65536) × (n * s ≤ out) × (n * d ≤
 abbrev pub sheetsChecked : Bool → List ℕ → List ℕ → ℕ → ℕ → ℕ → Checked
 sheetsChecked replaces ss ds n out other = sheetChecks (formOf replaces) ss ds n (sourceOf replaces out other) (backgroundOf replaces out other)
 
+abbrev pub recordsChecked : Bool → ℕ → ℕ → ℕ → Datatype → Datatype → Checked
+recordsChecked replaces n out other S D = recordChecks (formOf replaces) n (sourceOf replaces out other) (backgroundOf replaces out other) S D
+
 abbrev pub typesChecked : Bool → ℕ → ℕ → ℕ → Datatype → Datatype → Checked
 typesChecked replaces n out other S D = typeChecks (formOf replaces) n (sourceOf replaces out other) (backgroundOf replaces out other) S D
 
@@ -68,6 +71,13 @@ typesChecked replaces n out other S D = typeChecks (formOf replaces) n (sourceOf
 pub record Passes (replaces : Bool) (ss ds : List ℕ) (n out other : ℕ) (ws : List ℕ) (i : ℕ) (wd : List ℕ) (k : ℕ) : Type 0 where
   pub types : Both ss ws i ds wd k
   pub records : HasRecords replaces n (size (typeAt ws ss i)) (size (typeAt wd ds k)) out other
+
+-- r says what the checks of the records of the types i and k say
+abbrev pub RecordsSay : Bool → List ℕ → List ℕ → ℕ → ℕ → ℕ → List ℕ → ℕ → List ℕ → ℕ → Checks → Type 0
+RecordsSay replaces ss ds n out other ws i wd k (Refuse a) = recordsChecked replaces n out other (typeAt ws ss i) (typeAt wd ds k) ≡ refused a
+RecordsSay replaces ss ds n out other ws i wd k (Pass i′ k′) =
+    (i′ ≡ i) × (k′ ≡ k) × (recordsChecked replaces n out other (typeAt ws ss i) (typeAt wd ds k) ≡ passed (typeAt ws ss i) (typeAt wd ds k))
+    × Passes replaces ss ds n out other ws i wd k
 
 -- r says what the checks of the types i and k say
 abbrev pub TypesSay : Bool → List ℕ → List ℕ → ℕ → ℕ → ℕ → List ℕ → ℕ → List ℕ → ℕ → Checks → Type 0

@@ -62,13 +62,16 @@ abbrev pub hasRoom : Form → ℕ → ℕ → ℕ → ℕ → ℕ → Bool
 hasRoom copying n S D source background = leb (n * S) source && leb (n * D) background
 hasRoom inPlace n S D buffer background = leb (n * max S D) buffer && leb (n * D) background
 
--- checks 5 to 7: two types, and the buffers by their lengths
-abbrev pub typeChecks : Form → ℕ → ℕ → ℕ → Datatype → Datatype → Checked
-typeChecks form n source background S D =
-    require (hasPath S D) Path
-    (require (leb n 65536) Count
+-- checks 6 and 7: records of two types, and the buffers by their lengths
+abbrev pub recordChecks : Form → ℕ → ℕ → ℕ → Datatype → Datatype → Checked
+recordChecks form n source background S D =
+    require (leb n 65536) Count
     (require (hasRoom form n (size S) (size D) source background) Room
-    (passed S D)))
+    (passed S D))
+
+-- checks 5 to 7: the path between two types before them
+abbrev pub typeChecks : Form → ℕ → ℕ → ℕ → Datatype → Datatype → Checked
+typeChecks form n source background S D = require (hasPath S D) Path (recordChecks form n source background S D)
 
 -- checks 3 to 7: two sheets by their texts
 abbrev pub sheetChecks : Form → List ℕ → List ℕ → ℕ → ℕ → ℕ → Checked

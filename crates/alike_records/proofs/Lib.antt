@@ -1,0 +1,2 @@
+mod SameBytes
+mod Staged

@@ -1,0 +1,2 @@
+mod Framed
+mod Listed

@@ -1,0 +1,2 @@
+pub mod ByEntries
+pub mod Between

@@ -1,0 +1,21 @@
+-- `difference_text::put_header` meets its contract. Assumes nothing.
+use Rattle.text.proofs.Written.{wrote}
+use borrow.Author.Needs.{needs}
+use Rattle.difference_text.proofs.put_header.Statement.{statement}
+use Rattle.difference_text.proofs.put_header.Tie as tie
+
+slice-aggregate-put-bytes : tie.Need-slice-aggregate-put-bytes
+slice-aggregate-put-bytes c = search needs
+
+put-bytes-requires : tie.Need-put-bytes-requires
+put-bytes-requires c κs = search needs
+
+same-length : tie.Need-same-length
+same-length c = search needs
+
+returns : tie.Need-returns
+returns c = wrote (c .before .before .before .before .before .before .args .list .now) 0 (c .before .before .before .before .before .before .pre) (c .before .before .put-bytes .ensures)
+
+pub put-header-spec : {M : Type 1} → statement M
+put-header-spec =
+    tie.close (tie.spec slice-aggregate-put-bytes put-bytes-requires same-length returns)
