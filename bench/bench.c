@@ -1,5 +1,5 @@
 // Times the copying and the in-place form, and HDF5's H5Tconvert where it is there (-DWITH_HDF5), on the same bytes, interleaved in one run; and the report
-// beside the in-place form, likewise. HDF5 follows document 01 on these workloads: a byte that differs ends the run with status 1.
+// beside the in-place form, and the comparison of a log and its conversion beside the copying form, likewise. HDF5 follows document 01 on these workloads: a byte that differs ends the run with status 1.
 #include "../include/yirvagul.h"
 #include <stdio.h>
 #include <stdlib.h>
@@ -25,7 +25,7 @@ typedef struct {
     size_t records;      // of a call
     int calls;           // timed together
     int leaves;          // matched leaves of a record
-    const char *target;  // HDF5's time by that of the copying form; of a report, its own by that of the in-place form
+    const char *target;  // HDF5's time by that of the copying form; of a report, its own by that of the in-place form; of a comparison, its own by that of the copying form
     int largest;         // source bytes are random, from 0 up to this; QUARTERS: doubles, random quarters that 16 bits hold once the fraction is dropped
     Side source, destination;
 } Workload;
@@ -180,6 +180,16 @@ static void twelve_bits(Workload *w) {
     for (int i = 0; i < 8; i++) {
         from[i] = (Int){2, 1, 4, 12, i % 2};
         to[i] = (Int){4, 0, 0, 32, i % 2};
+    }
+    add_ints(&w->source, 8, from, NULL);
+    add_ints(&w->destination, 8, to, NULL);
+}
+
+static void turned_twelve_bits(Workload *w) {
+    Int from[8], to[8];
+    for (int i = 0; i < 8; i++) {
+        from[i] = (Int){2, 1, 4, 12, i % 2};
+        to[i] = (Int){2, 0, 4, 12, i % 2};
     }
     add_ints(&w->source, 8, from, NULL);
     add_ints(&w->destination, 8, to, NULL);
@@ -344,6 +354,24 @@ static double report(const Workload *w, const Buffers *b, uint32_t *table) {
     return t / (double)n;
 }
 
+// The source's records with those in place, which have so many differences.
+static double compare(const Workload *w, const Buffers *b, uint32_t *table, size_t differences) {
+    static uint8_t list[YIRVAGUL_COMPARE_HEADER_BYTES + RECORDS * YIRVAGUL_COMPARE_LINE_BYTES];
+    uint64_t answer[8];
+    const Side *s = &w->source, *d = &w->destination;
+    size_t from = strlen(s->sheet), to = strlen(d->sheet), n = w->records, lines = 0;
+    double t = now_ns();
+    if (yirvagul_compare((const uint8_t *)s->sheet, from, (const uint8_t *)d->sheet, to, n, b->source, n * (size_t)s->size, b->place, n * (size_t)d->size, list, sizeof list, table,
+                         YIRVAGUL_TABLE_WORDS, answer))
+        fail(w, "the comparison refused");
+    t = now_ns() - t;
+    for (size_t i = 0; i < answer[YIRVAGUL_ANSWER_COUNT]; i++)
+        lines += list[i] == '\n';
+    if (lines != 1 + differences)
+        fail(w, "the list has another number of differences");
+    return t / (double)n;
+}
+
 // H5Tconvert works in place over a background. Its datatypes are ready.
 static double hdf5(const Workload *w, const Buffers *b) {
 #ifdef WITH_HDF5
@@ -405,6 +433,49 @@ static void run_report(const Workload *w, int rounds) {
     free_buffers(b), free(table);
 }
 
+// What becomes of a converted record before it is compared; each gives how many of its numbers are others then.
+
+static size_t nothing(size_t record, unsigned char *bytes) {
+    (void)record;
+    (void)bytes;
+    return 0;
+}
+
+static size_t first_byte(size_t record, unsigned char *bytes) {
+    (void)record;
+    bytes[0] ^= 1;
+    return 1;
+}
+
+static size_t first_of_100(size_t record, unsigned char *bytes) { return record % 100 ? 0 : first_byte(record, bytes); }
+
+// Of 8 members of 12 bits above 4, in 2 bytes with the lowest first.
+static size_t pads(size_t record, unsigned char *bytes) {
+    (void)record;
+    for (int i = 0; i < 8; i++)
+        bytes[2 * i] = (unsigned char)(bytes[2 * i] ^ (random_bits() & 15));
+    return 0;
+}
+
+static void run_compare(const Workload *w, int rounds, size_t (*change)(size_t, unsigned char *)) {
+    static double c[ROUNDS_MOST], k[ROUNDS_MOST];
+    size_t size = (size_t)w->destination.size, differences = 0;
+    Buffers b = make_buffers(w);
+    uint32_t *table = calloc(YIRVAGUL_TABLE_WORDS, sizeof *table);
+    copying(w, &b, table);
+    memcpy(b.place, b.destination, w->records * size);
+    for (size_t i = 0; i < w->records; i++)
+        differences += change(i, b.place + i * size);
+    for (int i = 0; i < rounds; i++) {
+        c[i] = copying(w, &b, table);
+        k[i] = compare(w, &b, table, differences);
+    }
+    double copied = median(c, rounds), compared = median(k, rounds), n = w->leaves;
+    printf("| %s | %.1f | %.2f | %.1f | %.2f | %.2f | %s |\n", w->name, copied, copied / n, compared, compared / n, compared / copied, w->target);
+    fflush(stdout);
+    free_buffers(b), free(table);
+}
+
 static void run(const Workload *w, int rounds) {
     static double c[ROUNDS_MOST], p[ROUNDS_MOST], h[ROUNDS_MOST];
     size_t d = w->records * (size_t)w->destination.size;
@@ -439,6 +510,15 @@ int main(int argc, char **argv) {
                            {"8 whole-byte members, one record a call", 1, CALLS, 8, "", 255, {.sheet = ""}, {.sheet = ""}}};
     static Workload reports[] = {{"report of 8 whole-byte members of at most 32 bits", RECORDS, 1, 8, "2.5", 255, {.sheet = ""}, {.sheet = ""}},
                                  {"report of 8 members that may clamp", RECORDS, 1, 8, "", 255, {.sheet = ""}, {.sheet = ""}}};
+    static Workload compares[] = {{"compare 8 whole-byte members", RECORDS, 1, 8, "1.5", 255, {.sheet = ""}, {.sheet = ""}},
+                                  {"compare 8 members of 12 bits", RECORDS, 1, 8, "", 255, {.sheet = ""}, {.sheet = ""}},
+                                  {"compare 8 members of 12 bits with doubles", RECORDS, 1, 8, "", 255, {.sheet = ""}, {.sheet = ""}},
+                                  {"compare 8 doubles of the other order", RECORDS, 1, 8, "", 255, {.sheet = ""}, {.sheet = ""}},
+                                  {"compare 8 whole-byte members, one record of 100 differs", RECORDS, 1, 8, "", 255, {.sheet = ""}, {.sheet = ""}},
+                                  {"compare 8 whole-byte members, each record differs", RECORDS, 1, 8, "", 255, {.sheet = ""}, {.sheet = ""}},
+                                  {"compare 8 members of 12 bits, other pads", RECORDS, 1, 8, "", 255, {.sheet = ""}, {.sheet = ""}}};
+    static void (*const make_compare[])(Workload *) = {whole_bytes, twelve_bits, twelve_bits_to_reals, turned_reals, whole_bytes, whole_bytes, turned_twelve_bits};
+    static size_t (*const change[])(size_t, unsigned char *) = {nothing, nothing, nothing, nothing, first_of_100, first_byte, pads};
     static void (*const make_report[])(Workload *) = {whole_bytes_of_32, clamped};
     static void (*const make[])(Workload *) = {whole_bytes, twelve_bits, array_of_512, enums, grown_byte, scattered, first_four, twelve_bits_to_reals, reals_to_ints, turned_reals, whole_bytes};
     int rounds = argc > 1 ? atoi(argv[1]) : 15;
@@ -459,6 +539,14 @@ int main(int argc, char **argv) {
             continue;
         make_report[i](&reports[i]);
         run_report(&reports[i], rounds);
+    }
+    printf("\n| workload | copying ns/record | ns/leaf | compare ns/record | ns/leaf | compare / copying | at most |\n");
+    printf("|---|---|---|---|---|---|---|\n");
+    for (size_t i = 0; i < sizeof compares / sizeof *compares; i++) {
+        if (argc > 2 && !strstr(compares[i].name, argv[2]))
+            continue;
+        make_compare[i](&compares[i]);
+        run_compare(&compares[i], rounds, change[i]);
     }
     return 0;
 }

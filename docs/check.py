@@ -26,6 +26,7 @@ from yirvagul import (
     Refusal,
     Report,
     Sign,
+    compare,
     convert_copying,
     convert_in_place,
     leaf_list,
@@ -278,6 +279,12 @@ def check_conversions(page, text):
         expect(buffer == data(wanted), page, f"in place {given} becomes {buffer.hex(' ')}")
 
 
+def check_compared(page, text):
+    for first, second, one, other, wanted in rows(page, text, "| First sheet | Second sheet | First | Second | Line |"):
+        found = [row.line for row in compare(sheet(first), sheet(second), data(one), data(other))]
+        expect(found == [line.replace("⇥", "\t") for line in spans(wanted)], page, f"{one} of {first} beside {other} of {second}: {found}")
+
+
 def layout_of(cell):
     class_, size, order, offset, precision, lsb, msb, *sign = spans(cell)[0].split("⇥")
     pads = {"zero": Pad.ZERO, "one": Pad.ONE, "keep": Pad.KEEP}
@@ -366,6 +373,8 @@ def check_limits(page, text):
         "records of one report": lambda n: refused_at("FULL", *(reported(BYTE, bytes(k)) for k in (n, n + 1))) and n == Report.MOST_RECORDS,
         "a report's memory": lambda n: n == constant("REPORT_WORDS"),
         "a report's output": lambda n: n == constant("REPORT_BYTES"),
+        "the header of a list of differences": lambda n: f"YIRVAGUL_COMPARE_HEADER_BYTES {n}\n" in header,
+        "a line of it": lambda n: f"YIRVAGUL_COMPARE_LINE_BYTES {n}\n" in header,
         "stack of a converting call, destination record of at most 128 bytes": lambda n: n == SMALL_STACK_BYTES,
         "stack of any converting call": lambda n: n == STACK_BYTES,
     }
@@ -377,7 +386,7 @@ def check_limits(page, text):
 
 
 def check_sheets(page, text):
-    for check in (check_rules, check_places, check_conversions, check_setters, check_numbers, check_limits):
+    for check in (check_rules, check_places, check_conversions, check_compared, check_setters, check_numbers, check_limits):
         check(page, text)
 
 

@@ -1,5 +1,5 @@
-/* Yirvagul: converts records of instrument logs from one binary layout to another, in place or copying, reports on the numbers of many logs, lists a
- * layout's leaves, tells a record's size, and edits atomic layouts.
+/* Yirvagul: converts records of instrument logs from one binary layout to another, in place or copying, reports on the numbers of many logs, compares two
+ * logs, lists a layout's leaves, tells a record's size, and edits atomic layouts.
  *
  * Link with libcapi.a. Every call is proved against a definition of what it answers and of every byte that it leaves; it keeps nothing between calls,
  * allocates nothing and can be called from several threads at once, each with its own buffers.
@@ -7,7 +7,8 @@
  * What a caller owes, since C cannot say it in a type:
  *   - each pointer points at as many elements as the length beside it says; a sheet, a buffer, a memory or a table of length 0 may be NULL;
  *   - answer and layout point at eight words each, and are never NULL;
- *   - a buffer that is written (destination, buffer, log, memory, output, list, table, answer, layout) overlaps no other argument.
+ *   - a buffer that is written (destination, buffer, log, memory, output, list, table, answer, layout) overlaps no other argument. Those that are only read
+ *     may overlap each other.
  *
  * Sheets are text: lines ended by byte 10, fields parted by one tab, for example a compound of one 12-bit pressure:
  *
@@ -32,8 +33,9 @@ extern "C" {
  * after every call, except after HANDLING and TABLE, which leave it as it was; words beyond never change. */
 #define YIRVAGUL_TABLE_WORDS 8192
 
-/* The most bytes that a call takes of its thread's stack: any call; and one that converts or reports where the destination record has at most 128 bytes, or
- * that is neither (the list, the size, the setters). A call that is refused with HANDLING, TABLE, SOURCE or DESTINATION takes at most 16,384. */
+/* The most bytes that a call takes of its thread's stack: any call; and one that converts, reports or compares where the destination record (the reader's, the
+ * second log's) has at most 128 bytes, or that does none of these (the leaf list, the size, the setters). A call that is refused with HANDLING, TABLE, SOURCE
+ * or DESTINATION takes at most 16,384. */
 #define YIRVAGUL_STACK_BYTES 163840
 #define YIRVAGUL_SMALL_STACK_BYTES 49152
 
@@ -48,19 +50,19 @@ enum {
     YIRVAGUL_HANDLING = 1,
     /* The table has fewer than YIRVAGUL_TABLE_WORDS words. Lend a longer one. */
     YIRVAGUL_TABLE = 2,
-    /* The source sheet, or the only one, is faulty at `line`, counted from 1. Correct that line: a line is judged by itself and the lines before it.
-     * Line 0: the sheet is longer than 16,384 bytes. A last line without byte 10 is faulty at its own number. */
+    /* The source sheet, the first log's, or the only one, is faulty at `line`, counted from 1. Correct that line: a line is judged by itself and the lines
+     * before it. Line 0: the sheet is longer than 16,384 bytes. A last line without byte 10 is faulty at its own number. */
     YIRVAGUL_SOURCE = 3,
-    /* The destination sheet, or the reader's, is faulty at `line`, likewise. */
+    /* The destination sheet, the reader's, or the second log's, is faulty at `line`, likewise. */
     YIRVAGUL_DESTINATION = 4,
-    /* The source type has no path to the destination type. Give members of one name the same class, or make one an int and the other a real; and arrays the
-     * same dimensions, as many and in the same order. */
+    /* The source type has no path to the destination type, or the first log's to the second's. Give members of one name the same class, or make one an int
+     * and the other a real; and arrays the same dimensions, as many and in the same order. */
     YIRVAGUL_PATH = 5,
-    /* count is above 65,536. Convert in parts. */
+    /* count is above 65,536. Go in parts. */
     YIRVAGUL_COUNT = 6,
-    /* A buffer is too short, with S and D for the sizes of a source and a destination record: the source for count * S bytes, the destination or the
-     * background for count * D, the in-place buffer or the log for count * max(S, D), the report's memory for its words, the list, or the report's output.
-     * Lend a longer one. */
+    /* A buffer is too short, with S and D for the sizes of a source and a destination record: the source or the first log for count * S bytes, the
+     * destination, the background or the second log for count * D, the in-place buffer or the log for count * max(S, D), the report's memory for its words,
+     * a list, or the report's output. Lend a longer one. */
     YIRVAGUL_ROOM = 7,
     /* Handling is stop, and a number does not fit: the first such leaf is `at` bytes into destination record `record`, `kind` says why, and `given` and
      * `magnitude` are the number. Give the destination a layout there that holds it, or convert with YIRVAGUL_CLAMP. */
@@ -77,8 +79,8 @@ enum {
 /* The answer's eight words. Each call that reads sheets writes all of them; a word that the number does not name is 0. */
 enum {
     YIRVAGUL_ANSWER_NUMBER = 0,   /* what the call returned */
-    YIRVAGUL_ANSWER_COUNT = 1,    /* done: how many leaves raised an exception; of the list or the report, its length in bytes; of the record size, that
-                                      size in bytes */
+    YIRVAGUL_ANSWER_COUNT = 1,    /* done: how many leaves raised an exception; of the leaf list, the report or the list of differences, its length in
+                                      bytes; of the record size, that size in bytes */
     YIRVAGUL_ANSWER_LINE = 2,     /* SOURCE, DESTINATION: the first faulty line */
     YIRVAGUL_ANSWER_RECORD = 3,   /* STOP: the record, from 0 */
     YIRVAGUL_ANSWER_AT = 4,       /* STOP: the leaf's first byte in its destination record, from 0 */
@@ -192,6 +194,34 @@ enum {
 uint32_t yirvagul_report(const uint8_t *source_sheet, size_t source_sheet_len, const uint8_t *reader_sheet, size_t reader_sheet_len, uint64_t count,
                          uint8_t *log, size_t log_len, const uint8_t *background, size_t background_len, int64_t *memory, size_t memory_len,
                          uint8_t *output, size_t output_len, uint32_t *table, size_t table_len, uint64_t answer[8]);
+
+/* ---- comparing two logs ---- */
+
+/* A list of k differences has at most YIRVAGUL_COMPARE_HEADER_BYTES + k * YIRVAGUL_COMPARE_LINE_BYTES bytes: a record's number is at most 65,535, a byte at
+ * most 4,095, a number has at most 20 characters with its minus, and four separators stand in a line. Of count records there are at most count differences
+ * for each leaf of the second sheet. */
+#define YIRVAGUL_COMPARE_HEADER_BYTES 23
+#define YIRVAGUL_COMPARE_LINE_BYTES 53
+
+/* Lists where two logs of count records differ, each with a sheet of its own. Compared are the leaves of the second sheet that the first one matches, each
+ * with the leaf that a conversion from the first sheet to the second would give it; nothing is converted:
+ *   - ints and bits by their numbers, exactly, whatever their sizes, orders, offsets, precisions and signs;
+ *   - enums by symbol. A number without a symbol equals only the same number without one, and differs from every number that has one;
+ *   - a real and a real by their 64 bits: a not-a-number equals one of the same bits, and -0.0 differs from 0.0;
+ *   - a real and an int by exact worth: -0.0 equals 0, and a fraction, an infinity or a not-a-number differs from every int.
+ * Pads, gaps, and members that only one of the sheets has, are not looked at.
+ *
+ * The list has a header, `record`, `at`, `first` and `second` parted by tabs, and a line for each difference, by record and then by byte: the record's number,
+ * from 0, the leaf's first byte in the second log's record, and the two numbers, in decimal with a minus where they are negative; a real's is its 64 bits,
+ * as an unsigned number. Every difference is there, and none twice. Done gives the list's length, which is YIRVAGUL_COMPARE_HEADER_BYTES exactly if nothing
+ * differs; bytes past the list stay.
+ *
+ * Neither log is written; they may be one buffer. The checks, in this order, are TABLE, SOURCE (the first sheet), DESTINATION (the second), PATH, COUNT, ROOM
+ * (the first log under count * S bytes, or the second under count * D), ROOM (the list). A refusal leaves the list as it was. Logs may be cut between records,
+ * both at the same one: the lists of the parts have the same lines, with records counted from each part's first. */
+uint32_t yirvagul_compare(const uint8_t *first_sheet, size_t first_sheet_len, const uint8_t *second_sheet, size_t second_sheet_len, uint64_t count,
+                          const uint8_t *first, size_t first_len, const uint8_t *second, size_t second_len, uint8_t *list, size_t list_len,
+                          uint32_t *table, size_t table_len, uint64_t answer[8]);
 
 /* ---- the leaf list ---- */
 

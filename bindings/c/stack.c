@@ -189,6 +189,7 @@ typedef enum {
     IN_PLACE,
     IN_PLACE_PLAIN,
     REPORT,
+    COMPARE,
     LIST,
     SIZE,
     SET_SIZE,
@@ -199,7 +200,7 @@ typedef enum {
     NONE
 } Form;
 
-static const char *const forms[] = {"copying",  "copying, plain", "in place",  "in place, plain", "report",   "list", "size",
+static const char *const forms[] = {"copying",  "copying, plain", "in place",  "in place, plain", "report",   "compare", "list", "size",
                                     "set size", "set field",      "set order", "set pads",        "set sign", "nothing"};
 
 typedef struct {
@@ -214,7 +215,7 @@ typedef struct {
 } Call;
 
 static uint8_t source[RECORDS * RECORD_MOST], place[RECORDS * RECORD_MOST], background[RECORDS * RECORD_MOST], list[YIRVAGUL_LIST_BYTES];
-static uint8_t output[YIRVAGUL_REPORT_BYTES];
+static uint8_t output[YIRVAGUL_REPORT_BYTES], differences[YIRVAGUL_COMPARE_HEADER_BYTES + RECORDS * RECORD_MOST * YIRVAGUL_COMPARE_LINE_BYTES];
 static int64_t memory[YIRVAGUL_REPORT_WORDS], held; /* held: the records of the report at entry */
 static uint32_t table[YIRVAGUL_TABLE_WORDS];
 static uint64_t answer[8];
@@ -238,6 +239,9 @@ static uint32_t run(const Call *c) {
     case REPORT:
         return yirvagul_report(from, c->from_len, to, c->to_len, c->count, place, sizeof place, background, sizeof background, memory, c->words, output,
                                c->room, table, c->table_len, answer);
+    case COMPARE: /* the second log is of bytes 0 */
+        return yirvagul_compare(from, c->from_len, to, c->to_len, c->count, source, sizeof source, background, sizeof background, differences, c->room,
+                                table, c->table_len, answer);
     case LIST: return yirvagul_leaf_list(from, c->from_len, list, c->room, table, c->table_len, answer);
     case SIZE: return yirvagul_record_size(from, c->from_len, table, c->table_len, answer);
     case SET_SIZE: return yirvagul_set_size(layout, c->handling);
@@ -349,7 +353,7 @@ static Call call(Form form, const char *what, const Sheet *from, const Sheet *to
     c.from_len = strlen(from->text);
     c.to = to->text;
     c.to_len = strlen(to->text);
-    c.room = form == LIST ? sizeof list : form == REPORT ? sizeof output : sizeof place;
+    c.room = form == LIST ? sizeof list : form == REPORT ? sizeof output : form == COMPARE ? sizeof differences : sizeof place;
     c.words = YIRVAGUL_REPORT_WORDS;
     c.table_len = YIRVAGUL_TABLE_WORDS;
     c.count = RECORDS;
@@ -399,6 +403,21 @@ static void test_report(const Pair *p) {
     held = -1, expect(c, YIRVAGUL_FULL, most), held = 0;
 }
 
+/* Two logs that are the same and two that differ, where the first's records may have numbers that the second's have not; and checks 5 to 7. */
+static void test_compare(const Pair *p) {
+    size_t most = size_of(&p->to) <= SMALL_RECORD ? YIRVAGUL_SMALL_STACK_BYTES : YIRVAGUL_STACK_BYTES;
+    Call c = call(COMPARE, p->name, &p->from, &p->to), other;
+    int high;
+    for (high = 0; high < 2; high++) {
+        memset(source, high ? 255 : 0, sizeof source);
+        expect(c, YIRVAGUL_DONE, most);
+        other = c, other.room = YIRVAGUL_COMPARE_HEADER_BYTES, expect(other, high ? YIRVAGUL_ROOM : YIRVAGUL_DONE, most);
+    }
+    other = c, other.count = 65537, expect(other, YIRVAGUL_COUNT, most);
+    other = c, other.count = 3 * RECORDS * RECORD_MOST, expect(other, YIRVAGUL_ROOM, most);
+    other = c, other.room = 0, expect(other, YIRVAGUL_ROOM, most);
+}
+
 /* Checks 1 to 4, with faults in the last lines of the deepest sheets. */
 static void test_refused(const Pair *p) {
     static Sheet faulty;
@@ -412,7 +431,7 @@ static void test_refused(const Pair *p) {
         other = c, other.from = faulty.text, other.from_len = strlen(faulty.text), expect(other, YIRVAGUL_SOURCE, REFUSED_STACK_BYTES);
         other = c, other.from_len = SHEET_MOST + 1, expect(other, YIRVAGUL_SOURCE, REFUSED_STACK_BYTES);
         if (takes_handling(c.form)) other = c, other.handling = 2, expect(other, YIRVAGUL_HANDLING, REFUSED_STACK_BYTES);
-        if (form <= REPORT) other = c, other.to = faulty.text, other.to_len = strlen(faulty.text), expect(other, YIRVAGUL_DESTINATION, REFUSED_STACK_BYTES);
+        if (form <= COMPARE) other = c, other.to = faulty.text, other.to_len = strlen(faulty.text), expect(other, YIRVAGUL_DESTINATION, REFUSED_STACK_BYTES);
     }
 }
 
@@ -431,7 +450,7 @@ static void test_no_path(const char *name, void (*deep)(Sheet *, const char *, i
     memset(&to, 0, sizeof to);
     deep(&from, BYTE, n);
     deep(&to, BITS, n);
-    for (form = COPYING; form <= REPORT; form++) expect(call((Form)form, name, &from, &to), YIRVAGUL_PATH, most);
+    for (form = COPYING; form <= COMPARE; form++) expect(call((Form)form, name, &from, &to), YIRVAGUL_PATH, most);
 }
 
 static void test_setters(void) {
@@ -468,6 +487,7 @@ int main(int argc, char **argv) {
     for (i = 0; i < pair_count; i++) {
         test_converting(&pairs[i]);
         test_report(&pairs[i]);
+        test_compare(&pairs[i]);
         test_refused(&pairs[i]);
         test_sheet(pairs[i].name, &pairs[i].from);
         test_sheet(pairs[i].name, &pairs[i].to);

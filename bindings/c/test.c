@@ -265,6 +265,90 @@ static void test_largest_report(void) {
     expect(memory[YIRVAGUL_REPORT_WORDS - 1] == 1 && memory[YIRVAGUL_REPORT_WORDS - 4] == 255, "its last leaf");
 }
 
+/* ---- two logs compared */
+
+#define COLUMNS "record\tat\tfirst\tsecond\n"
+
+static uint8_t differences[YIRVAGUL_COMPARE_HEADER_BYTES + 8 * YIRVAGUL_COMPARE_LINE_BYTES];
+
+static uint32_t compare(const char *from, const char *to, uint64_t count, const char *first, size_t first_len, const char *second, size_t second_len,
+                        size_t room) {
+    memset(differences, 0x77, sizeof differences);
+    return yirvagul_compare((const uint8_t *)from, strlen(from), (const uint8_t *)to, strlen(to), count, (const uint8_t *)first, first_len,
+                            (const uint8_t *)second, second_len, differences, room, table, YIRVAGUL_TABLE_WORDS, answer);
+}
+
+/* Done, with these lines and no byte past them; and refused, with no byte written, where the list lacks one byte. */
+static void expect_lines(const char *from, const char *to, uint64_t count, const char *first, size_t first_len, const char *second, size_t second_len,
+                         const char *lines, const char *what) {
+    size_t len = strlen(COLUMNS) + strlen(lines);
+    expect_answer(compare(from, to, count, first, first_len, second, second_len, sizeof differences), 0, len, 0, 0, 0, 0, what);
+    expect_bytes(differences, COLUMNS, strlen(COLUMNS), what);
+    expect_bytes(differences + strlen(COLUMNS), lines, strlen(lines), what);
+    expect(differences[len] == 0x77, what);
+    expect_answer(compare(from, to, count, first, first_len, second, second_len, len), 0, len, 0, 0, 0, 0, what);
+    expect_answer(compare(from, to, count, first, first_len, second, second_len, len - 1), 7, 0, 0, 0, 0, 0, what);
+    expect(differences[0] == 0x77 && memcmp(differences, differences + 1, sizeof differences - 1) == 0, what);
+}
+
+/* One record of one leaf each. */
+static void expect_pair(const char *from, const char *to, const char *first, size_t first_len, const char *second, size_t second_len, const char *line,
+                        const char *what) {
+    expect_lines(from, to, 1, first, first_len, second, second_len, line, what);
+}
+
+static void test_compare(void) {
+    static const char valve[] = SIGNED_BYTE "enum\t0\nvalue\topen\t0\nvalue\tshut\t-2\n";
+    static const char other[] = BYTE "enum\t0\nvalue\tshut\t0\nvalue\topen\t254\n";
+    static const char from[] = BYTE "comp\t3\nmember\ta\t0\t0\nmember\tb\t1\t0\n", to[] = PAIR "comp\t6\nmember\tb\t4\t0\nmember\ta\t0\t0\nmember\tc\t2\t0\n";
+    static const char most[] = "\xff\xff\xff\xff\xff\xff\xff\xff", lowest[] = "\x80\0\0\0\0\0\0";
+    expect(strlen(COLUMNS) == YIRVAGUL_COMPARE_HEADER_BYTES, "the header's length");
+    expect_lines(BYTE, PAIR, 2, "\xc8\x07", 2, "\0\xc8\0\x07", 4, "", "ints of other widths");
+    expect_lines(BYTE, SIGNED_BYTE, 2, "\x05\xff", 2, "\x05\xff", 2, "1\t0\t255\t-1\n", "the same bits of another sign");
+    expect_pair(WIDEST, SIGNED_WIDEST, most, 8, lowest, 8, "0\t0\t18446744073709551615\t-9223372036854775808\n", "the longest numbers");
+    expect_lines(from, to, 2, "\1\2\x99\3\4\x99", 6, "\0\7\x99\x99\0\2\0\3\x99\x99\0\x09", 12, "0\t0\t1\t7\n1\t4\t4\t9\n",
+                 "by record and by the second log's byte");
+    expect_lines(valve, other, 4, "\0\xfe\7\x09", 4, "\xfe\0\7\x08", 4, "3\t0\t9\t8\n", "enums by symbol");
+    expect_lines(valve, other, 2, "\0\xfe", 2, "\0\xfe", 2, "0\t0\t0\t0\n1\t0\t-2\t254\n", "enums of one number, two symbols");
+    expect_pair(valve, other, "\0", 1, "\5", 1, "0\t0\t0\t5\n", "a symbol in the first alone");
+    expect_pair(REAL, REAL, "\x7f\xf8\0\0\0\0\0\1", 8, "\x7f\xf8\0\0\0\0\0\1", 8, "", "a not-a-number and itself");
+    expect_pair(REAL, REAL, lowest, 8, "\0\0\0\0\0\0\0", 8, "0\t0\t9223372036854775808\t0\n", "-0.0 and 0.0");
+    expect_pair(REAL, BYTE, lowest, 8, "\0", 1, "", "-0.0 and 0");
+    expect_pair(REAL, WIDEST, "\x43\x40\0\0\0\0\0\0", 8, "\0\x20\0\0\0\0\0\0", 8, "", "2^53");
+    expect_pair(WIDEST, REAL, "\0\x20\0\0\0\0\0\1", 8, "\x43\x40\0\0\0\0\0\0", 8, "0\t0\t9007199254740993\t4845873199050653696\n",
+                "2^53 + 1 and the nearest double");
+    expect_pair(REAL, SIGNED_WIDEST, "\x7f\xf8\0\0\0\0\0\0", 8, "\x7f\xf8\0\0\0\0\0\0", 8, "0\t0\t9221120237041090560\t9221120237041090560\n",
+                "a not-a-number and the int of its bits");
+    expect_pair(REAL, BYTE, "\x7f\xf0\0\0\0\0\0\0", 8, "\xff", 1, "0\t0\t9218868437227405312\t255\n", "an infinity");
+    expect_lines("comp\t2\n", "comp\t1\n", 2, "\1\2\3\4", 4, "\5\6", 2, "", "records without a leaf");
+    expect_lines(BYTE, BITS "comp\t1\n" PAIR, 0, NULL, 0, NULL, 0, "", "no record");
+    expect_answer(compare("int\t9\n", "x\n", 65537, "", 0, "", 0, 0), 3, 0, 1, 0, 0, 0, "SOURCE, compare");
+    expect_answer(compare(BYTE, BYTE "x\n", 65537, "", 0, "", 0, 0), 4, 0, 2, 0, 0, 0, "DESTINATION, compare");
+    expect_answer(compare(BYTE, BITS, 65537, "", 0, "", 0, 0), 5, 0, 0, 0, 0, 0, "PATH, compare");
+    expect_answer(compare(BYTE, BYTE, 65537, "", 0, "", 0, 0), 6, 0, 0, 0, 0, 0, "COUNT, compare");
+    expect_answer(compare(BYTE, PAIR, 2, "\1", 1, "\0\1\0\2", 4, 99), 7, 0, 0, 0, 0, 0, "ROOM, a short first log");
+    expect_answer(compare(BYTE, PAIR, 2, "\1\2", 2, "\0\1\0", 3, 99), 7, 0, 0, 0, 0, 0, "ROOM, a short second log");
+}
+
+/* A difference in each of 65,536 records, and both logs as one buffer. */
+static void test_longest_lines(void) {
+    static const char from[] = SIGNED_WIDEST "comp\t8\nmember\ta\t0\t0\n", to[] = WIDEST "comp\t8\nmember\ta\t0\t0\n";
+    static const char last[] = "\n65535\t0\t-9223372036854775808\t9223372036854775808\n";
+    static uint8_t log[65536 * 8], list[YIRVAGUL_COMPARE_HEADER_BYTES + 65536 * YIRVAGUL_COMPARE_LINE_BYTES];
+    size_t digits = 10 + 90 * 2 + 900 * 3 + 9000 * 4 + (65536 - 10000) * 5, record, len;
+    for (record = 0; record < 65536; record++) log[8 * record] = 0x80;
+    len = YIRVAGUL_COMPARE_HEADER_BYTES + digits + 65536 * (strlen(last) - strlen("\n65535"));
+    memset(list, 0x77, sizeof list);
+    expect_answer(yirvagul_compare((const uint8_t *)from, strlen(from), (const uint8_t *)to, strlen(to), 65536, log, sizeof log, log, sizeof log, list,
+                                   sizeof list, table, YIRVAGUL_TABLE_WORDS, answer),
+                  0, len, 0, 0, 0, 0, "65,536 differences of one buffer");
+    expect_bytes(list + len - strlen(last), last, strlen(last), "the last line");
+    expect(list[len] == 0x77, "bytes past 65,536 differences");
+    expect_answer(yirvagul_compare((const uint8_t *)to, strlen(to), (const uint8_t *)to, strlen(to), 65536, log, sizeof log, log, sizeof log, list,
+                                   YIRVAGUL_COMPARE_HEADER_BYTES, table, YIRVAGUL_TABLE_WORDS, answer),
+                  0, YIRVAGUL_COMPARE_HEADER_BYTES, 0, 0, 0, 0, "a log and itself");
+}
+
 static void test_list(void) {
     static uint8_t list[YIRVAGUL_LIST_BYTES];
     const char *wanted = "at\tsize\tclass\n0\t1\tbits\n";
@@ -400,6 +484,14 @@ static void test_null(void) {
     expect_answer(yirvagul_report(byte, len, byte, len, 0, NULL, 0, NULL, 0, NULL, 0, NULL, 0, table, YIRVAGUL_TABLE_WORDS, answer), 7, 0, 0, 0, 0, 0,
                   "ROOM, a NULL memory");
     expect_answer(yirvagul_report(byte, len, byte, len, 0, NULL, 0, NULL, 0, NULL, 0, NULL, 0, NULL, 0, answer), 2, 0, 0, 0, 0, 0, "TABLE, report");
+    expect_answer(yirvagul_compare(NULL, 0, byte, len, 0, NULL, 0, NULL, 0, NULL, 0, table, YIRVAGUL_TABLE_WORDS, answer), 3, 0, 1, 0, 0, 0,
+                  "a NULL first sheet");
+    expect_answer(yirvagul_compare(byte, len, byte, len, 0, NULL, 0, NULL, 0, NULL, 0, table, YIRVAGUL_TABLE_WORDS, answer), 7, 0, 0, 0, 0, 0,
+                  "ROOM, a NULL list of differences");
+    expect_answer(yirvagul_compare(byte, len, byte, len, 0, NULL, 0, NULL, 0, differences, YIRVAGUL_COMPARE_HEADER_BYTES, table, YIRVAGUL_TABLE_WORDS,
+                                   answer),
+                  0, YIRVAGUL_COMPARE_HEADER_BYTES, 0, 0, 0, 0, "no record of NULL logs");
+    expect_answer(yirvagul_compare(byte, len, byte, len, 0, NULL, 0, NULL, 0, NULL, 0, NULL, 0, answer), 2, 0, 0, 0, 0, 0, "TABLE, compare");
     expect_answer(yirvagul_leaf_list(NULL, 0, NULL, 0, table, YIRVAGUL_TABLE_WORDS, answer), 3, 0, 1, 0, 0, 0, "the list of a NULL sheet");
     expect_answer(yirvagul_leaf_list(byte, len, NULL, 0, table, YIRVAGUL_TABLE_WORDS, answer), 7, 0, 0, 0, 0, 0, "ROOM, a NULL list");
     expect_answer(yirvagul_leaf_list(byte, len, NULL, 0, NULL, 0, answer), 2, 0, 0, 0, 0, 0, "TABLE, a NULL table");
@@ -423,6 +515,8 @@ int main(void) {
     test_given();
     test_report();
     test_largest_report();
+    test_compare();
+    test_longest_lines();
     test_list();
     test_table();
     test_record_size();

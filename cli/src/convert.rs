@@ -6,6 +6,7 @@ use crate::{files, Command};
 use std::ffi::{OsStr, OsString};
 use std::io::{self, IsTerminal};
 use std::path::Path;
+use std::process::ExitCode;
 use yirvagul::{Handling, LogConverter, LogError, Output};
 
 pub const COMMAND: Command = Command {
@@ -37,7 +38,7 @@ example:
     run,
 };
 
-fn run(words: Vec<OsString>) -> Result<(), Failure> {
+fn run(words: Vec<OsString>) -> Result<ExitCode, Failure> {
     let arguments = Arguments::new(words, &["--clamp", "--stop"], &["--background", "--jobs"])?;
     let [from, to, log, out] = arguments.files(["FROM.sheet", "TO.sheet", "IN", "OUT"])?;
     let background = arguments.option("--background");
@@ -72,7 +73,7 @@ fn run(words: Vec<OsString>) -> Result<(), Failure> {
             _ => Failure::of_log(error, from, to, log),
         })?;
     files::note(&said(totals.records, totals.exceptions));
-    Ok(())
+    Ok(ExitCode::SUCCESS)
 }
 
 fn handling(arguments: &Arguments) -> Result<Handling, Failure> {
@@ -103,6 +104,7 @@ pub fn said(records: u64, exceptions: u64) -> String {
     )
 }
 
-fn many(n: u64, what: &str) -> String {
+/// A number of things, as "1 record" or "2 records".
+pub fn many(n: u64, what: &str) -> String {
     format!("{n} {what}{}", if n == 1 { "" } else { "s" })
 }

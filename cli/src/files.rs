@@ -5,6 +5,7 @@ use std::fs::File;
 use std::io::{self, Read, Write};
 use std::os::fd::AsFd;
 use std::path::Path;
+use std::process::ExitCode;
 use yirvagul::Input;
 
 /// One byte more than a sheet may have, so that one that is too long is seen to be.
@@ -52,7 +53,7 @@ pub fn standard_output() -> Result<File, Failure> {
     file.map(File::from).map_err(unwritten)
 }
 
-fn unwritten(error: io::Error) -> Failure {
+pub fn unwritten(error: io::Error) -> Failure {
     Failure::Io(format!("cannot write standard output: {error}"))
 }
 
@@ -75,6 +76,11 @@ fn unread(name: &OsStr, error: io::Error) -> Failure {
 /// Writes to standard output.
 pub fn put(text: &[u8]) -> Result<(), Failure> {
     standard_output()?.write_all(text).map_err(unwritten)
+}
+
+/// Writes all that a command prints.
+pub fn put_all(text: &[u8]) -> Result<ExitCode, Failure> {
+    put(text).map(|()| ExitCode::SUCCESS)
 }
 
 /// Writes a line to standard error. If that is closed, there is nobody to tell.

@@ -3,6 +3,7 @@ use crate::arguments::Arguments;
 use crate::failure::Failure;
 use crate::{files, Command};
 use std::ffi::OsString;
+use std::process::ExitCode;
 use yirvagul::Error;
 
 pub const COMMAND: Command = Command {
@@ -23,12 +24,12 @@ example:
     run,
 };
 
-fn run(words: Vec<OsString>) -> Result<(), Failure> {
+fn run(words: Vec<OsString>) -> Result<ExitCode, Failure> {
     let arguments = Arguments::new(words, &[], &[])?;
     let [name] = arguments.files(["SHEET"])?;
     let sheet = files::read_sheet(name)?;
     match yirvagul::leaf_list(&sheet) {
-        Ok(list) => files::put(list.as_bytes()),
+        Ok(list) => files::put_all(list.as_bytes()),
         Err(error) => {
             let line = match error {
                 Error::Source { line, .. } => line,

@@ -2,6 +2,7 @@
 #![forbid(unsafe_code)]
 
 mod arguments;
+mod compare;
 mod convert;
 mod failure;
 mod files;
@@ -20,11 +21,12 @@ struct Command {
     about: &'static str,
     /// What follows it: its usage, its words and an example.
     help: &'static str,
-    run: fn(Vec<OsString>) -> Result<(), Failure>,
+    run: fn(Vec<OsString>) -> Result<ExitCode, Failure>,
 }
 
-const COMMANDS: [Command; 4] = [
+const COMMANDS: [Command; 5] = [
     convert::COMMAND,
+    compare::COMMAND,
     report::COMMAND,
     list::COMMAND,
     size::COMMAND,
@@ -32,7 +34,7 @@ const COMMANDS: [Command; 4] = [
 
 fn main() -> ExitCode {
     match run(std::env::args_os().skip(1).collect()) {
-        Ok(()) => ExitCode::SUCCESS,
+        Ok(status) => status,
         Err(failure) => {
             files::note(&format!("yirvagul: {failure}"));
             failure.status()
@@ -40,14 +42,14 @@ fn main() -> ExitCode {
     }
 }
 
-fn run(mut words: Vec<OsString>) -> Result<(), Failure> {
+fn run(mut words: Vec<OsString>) -> Result<ExitCode, Failure> {
     if words.is_empty() {
         return Err(Failure::Usage("no command".into(), None));
     }
     let word = words.remove(0);
     match word.to_str() {
-        Some("-h" | "--help") => return files::put(overview().as_bytes()),
-        Some("-V" | "--version") => return files::put(version().as_bytes()),
+        Some("-h" | "--help") => return files::put_all(overview().as_bytes()),
+        Some("-V" | "--version") => return files::put_all(version().as_bytes()),
         _ => {}
     }
     let Some(command) = COMMANDS.iter().find(|command| word == command.name) else {
@@ -59,7 +61,7 @@ fn run(mut words: Vec<OsString>) -> Result<(), Failure> {
             "yirvagul {}: {}\n\n{}",
             command.name, command.about, command.help
         );
-        return files::put(help.as_bytes());
+        return files::put_all(help.as_bytes());
     }
     (command.run)(words).map_err(|failure| failure.of(command.name))
 }
@@ -79,7 +81,7 @@ usage: yirvagul COMMAND ..
 
 commands:
 {}
-exit status: 0 done, 1 input or output failed, 2 usage, 3 refused
+exit status: 0 done, 1 input or output failed, 2 usage, 3 refused, 4 two logs differ
 
 example:
   yirvagul convert examples/rig.sheet examples/customer.sheet examples/rig.log out.log

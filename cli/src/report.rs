@@ -4,6 +4,7 @@ use crate::failure::Failure;
 use crate::{convert, files, Command};
 use std::ffi::{OsStr, OsString};
 use std::io::ErrorKind;
+use std::process::ExitCode;
 use yirvagul::{Report, SavedError};
 
 pub const COMMAND: Command = Command {
@@ -35,7 +36,7 @@ example:
     run,
 };
 
-fn run(words: Vec<OsString>) -> Result<(), Failure> {
+fn run(words: Vec<OsString>) -> Result<ExitCode, Failure> {
     let arguments = Arguments::new(words, &[], &["--season"])?;
     let ([reader, from], logs) =
         arguments.files_and_more(["READER.sheet", "FROM.sheet"], "LOG..")?;
@@ -78,7 +79,7 @@ fn run(words: Vec<OsString>) -> Result<(), Failure> {
         said = format!("{said}; season: {all}");
     }
     files::note(&said);
-    Ok(())
+    Ok(ExitCode::SUCCESS)
 }
 
 /// The report that a file keeps, which is of the reader's own sheet; a new one if there is no such file.

@@ -3,6 +3,7 @@ use crate::arguments::Arguments;
 use crate::failure::Failure;
 use crate::{files, Command};
 use std::ffi::OsString;
+use std::process::ExitCode;
 
 pub const COMMAND: Command = Command {
     name: "size",
@@ -18,12 +19,12 @@ example:
     run,
 };
 
-fn run(words: Vec<OsString>) -> Result<(), Failure> {
+fn run(words: Vec<OsString>) -> Result<ExitCode, Failure> {
     let arguments = Arguments::new(words, &[], &[])?;
     let [name] = arguments.files(["SHEET"])?;
     let sheet = files::read_sheet(name)?;
     match yirvagul::record_size(&sheet) {
-        Ok(size) => files::put(format!("{size}\n").as_bytes()),
+        Ok(size) => files::put_all(format!("{size}\n").as_bytes()),
         Err(error) => Err(Failure::refused(files::said(name), error)),
     }
 }

@@ -103,6 +103,7 @@ fn help_has_an_example() {
         "--help",
         "-h",
         "convert --help",
+        "compare --help",
         "report --help",
         "list --help",
         "size -h",

@@ -2,6 +2,7 @@
 //! and plain. The proved library is held against it.
 
 pub mod call;
+pub mod compare;
 pub mod datatype;
 pub mod field;
 pub mod list;
@@ -13,6 +14,8 @@ pub mod setters;
 pub mod sheet;
 pub mod size;
 
+#[cfg(test)]
+mod comparisons;
 #[cfg(test)]
 mod exercises;
 #[cfg(test)]

@@ -1,5 +1,5 @@
-"""Converts records of instrument logs from one binary layout to another, reports on the numbers of many logs, lists a layout's leaves, and edits
-atomic layouts.
+"""Converts records of instrument logs from one binary layout to another, reports on the numbers of many logs, compares two logs, lists a layout's
+leaves, and edits atomic layouts.
 
 A wrapper over Yirvagul's proved C library. A sheet is text or its bytes. A buffer that is read is anything with contiguous bytes (bytes, bytearray,
 memoryview, mmap, array, numpy array); one that is written is writable and shares no byte with one that is read, which is checked but for two mappings
@@ -23,6 +23,7 @@ from .calls import (
     leaf_list,
     record_size,
 )
+from .comparing import Difference, compare, differences
 from .errors import Kind, Number, Refusal, Short
 from .layout import Class, Layout, Order, Pad, Sign
 from .log import Part, convert_log, convert_log_parts
@@ -35,6 +36,7 @@ __all__ = [
     "SMALL_STACK_BYTES",
     "STACK_BYTES",
     "Class",
+    "Difference",
     "Handling",
     "Kind",
     "Layout",
@@ -48,6 +50,7 @@ __all__ = [
     "Short",
     "Sign",
     "Summary",
+    "compare",
     "convert_copying",
     "convert_copying_plain",
     "convert_in_place",
@@ -55,6 +58,7 @@ __all__ = [
     "convert_log",
     "convert_log_parts",
     "convert_to_array",
+    "differences",
     "dtype_of",
     "leaf_list",
     "record_size",
@@ -65,4 +69,4 @@ STACK_BYTES = 163840
 """The most that any call takes of its thread's stack."""
 
 SMALL_STACK_BYTES = 49152
-"""The most that a call takes where the destination record has at most 128 bytes, and where it converts nothing."""
+"""The most that a call takes where the destination record, or the second log's, has at most 128 bytes, and where it has no records."""

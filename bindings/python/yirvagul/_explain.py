@@ -20,20 +20,23 @@ def refusal(
     count: Optional[int] = None,
     first: int = 0,
     short: Sequence[Short] = (),
+    compared: bool = False,
 ) -> Refusal:
     """The refusal that an answer is, to a call with one or two sheets, for count records, the first of which is number `first` of its log.
 
-    For FULL, count is what the report would have.
+    For FULL, count is what the report would have. Where two logs are compared, the source's sheet is the first log's, the destination's the second's.
     """
     number = answer[0]
+    names = ("first sheet", "second sheet") if compared else ("source sheet", "destination sheet")
     if number == Number.SOURCE:
-        return _faulty(answer, "source sheet" if destination_sheet is not None else "sheet", source_sheet)
+        return _faulty(answer, names[0] if destination_sheet is not None else "sheet", source_sheet)
     if number == Number.DESTINATION and destination_sheet is not None:
-        return _faulty(answer, "destination sheet", destination_sheet)
+        return _faulty(answer, names[1], destination_sheet)
     if number == Number.PATH and destination_sheet is not None:
         source, destination = tree(source_sheet), tree(destination_sheet)
-        found = sheets.no_path(source, destination) if source and destination else None
-        return Refusal(number, member=found and found.member, rule=found and found.rule, answer=answer)
+        named = ("first sheet", "second") if compared else ("source", "destination")
+        found = sheets.no_path(source, destination, names=named) if source and destination else None
+        return Refusal(number, member=found and found.member, rule=found and found.rule, compared=compared, answer=answer)
     if number == Number.COUNT:
         return Refusal(number, count=count, answer=answer)
     if number == Number.ROOM:

@@ -62,7 +62,7 @@ class Refusal(Exception):
     Every refusal has `number` and `name`. Of the others, those that the number does not name, or that could not be told, are None (`short`: empty):
 
     - SOURCE, DESTINATION: `line`, counted from 1, or 0 where the sheet is too long; its `text`; the `rule` that it breaks
-    - PATH: the `member` that has none, and the `rule` that it breaks
+    - PATH: the `member` that has none, and the `rule` that it breaks; `compared` is true where two logs were compared
     - COUNT: `count`, the number of records
     - ROOM: `short`, each buffer that is too short
     - STOP: `record`, from 0; `at`, the first byte of the leaf in its destination record; `kind`; the `member`, such as `boost[1]`;
@@ -92,6 +92,7 @@ class Refusal(Exception):
         given: Optional[int] = None,
         given_bits: Optional[int] = None,
         precision: Optional[int] = None,
+        compared: bool = False,
         answer: Sequence[int] = (),
     ) -> None:
         self.number = _known(Number, number)
@@ -101,8 +102,9 @@ class Refusal(Exception):
         self.record, self.at = record, at
         self.kind = None if kind is None else _known(Kind, kind)
         self.given_bits = given_bits
-        self.given: Union[int, float, None] = given if given_bits is None else _double(given_bits)
+        self.given: Union[int, float, None] = given if given_bits is None else double(given_bits)
         self.precision = precision
+        self.compared = compared
         self.answer = tuple(answer)
         said = _MESSAGES.get(int(number), _unknown)(self)
         super().__init__(f"{self.name} ({int(number)}): {said}")
@@ -132,9 +134,9 @@ def _faulty(refused: Refusal) -> str:
 
 def _path(refused: Refusal) -> str:
     rule = refused.rule or "give members of one name the same class, or an int and a real, and arrays the same dimensions"
-    if refused.member is None:
-        return f"no path from the source type to the destination type: {rule}"
-    return f"no path from the source type to the destination type at {quoted(refused.member)}: {rule}"
+    place = "" if refused.member is None else f" at {quoted(refused.member)}"
+    which = "first log's type to the second log's" if refused.compared else "source type to the destination type"
+    return f"no path from the {which}{place}: {rule}"
 
 
 def _count(refused: Refusal) -> str:
@@ -149,7 +151,7 @@ def _room(refused: Refusal) -> str:
     return f"{said}: lend {'a longer one' if len(refused.short) == 1 else 'longer ones'}"
 
 
-def _double(bits: int) -> float:
+def double(bits: int) -> float:
     """The double of 64 bits."""
     number: float = struct.unpack("<d", struct.pack("<Q", bits))[0]
     return number

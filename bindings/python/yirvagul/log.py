@@ -16,7 +16,7 @@ from ._buffers import Held, ReadableBuffer, Sheet, WriteableBuffer, sheet_bytes
 from .calls import Handling, named, record_size
 from .errors import Number, Refusal, Short
 
-Path = Union[str, "os.PathLike[str]"]
+Path = Union[str, os.PathLike[str]]
 
 PART_BYTES = 1 << 20
 """The most bytes of records that a part has, before or after conversion."""
@@ -94,7 +94,7 @@ def _handed_out(job: Job, source: Any) -> Iterator[Part]:
 # ---- the source
 
 
-class _Where(NamedTuple):
+class Where(NamedTuple):
     """Some bytes of memory."""
 
     address: int
@@ -108,10 +108,10 @@ class _Memory:
         self.held = held
         self.length: Optional[int] = held.length
 
-    def chunks(self, size: int) -> Iterator[_Where]:
+    def chunks(self, size: int) -> Iterator[Where]:
         """The log's bytes, each chunk but the last one of that size."""
         for at in range(0, self.held.length, size):
-            yield _Where(self.held.address + at, min(size, self.held.length - at))
+            yield Where(self.held.address + at, min(size, self.held.length - at))
 
     def keep(self) -> None:
         """Nothing: memory can be read twice."""
@@ -121,10 +121,11 @@ class _Memory:
 
 
 class _Stream:
-    """A log in an open file, from where it stands to its end."""
+    """A log in an open file, from where it stands to its end; what it is called."""
 
-    def __init__(self, file: IO[bytes]) -> None:
+    def __init__(self, file: IO[bytes], what: str) -> None:
         self.file = self.reading = file
+        self.what = what
         seekable = getattr(file, "seekable", None)
         self.start = file.tell() if seekable is not None and seekable() else None
         self.length = self._length()
@@ -138,15 +139,15 @@ class _Stream:
         self.file.seek(self.start)
         return max(0, end - self.start)
 
-    def chunks(self, size: int) -> Iterator[_Where]:
+    def chunks(self, size: int) -> Iterator[Where]:
         """The log's bytes, each chunk but the last one of that size."""
         while True:
-            chunk = _read(self.reading, size)
+            chunk = _read(self.reading, size, self.what)
             if self.kept is not None and self.reading is self.file:
                 self.kept.write(chunk)
             if chunk:
-                with Held("source", chunk) as held:
-                    yield _Where(held.address, held.length)
+                with Held(self.what, chunk) as held:
+                    yield Where(held.address, held.length)
             if len(chunk) < size:
                 return
 
@@ -166,19 +167,20 @@ class _Stream:
             self.kept.close()
 
 
-_Log = Union[_Memory, _Stream]
+Log = Union[_Memory, _Stream]
 
 
 @contextlib.contextmanager
-def opened(source: Any) -> Iterator[_Log]:
+def opened(source: Any, what: str = "source") -> Iterator[Log]:
+    """A path, a file or a buffer, for the time that it is read; what it is called."""
     if isinstance(source, (str, os.PathLike)):
-        with open(source, "rb") as file, contextlib.closing(_Stream(file)) as log:
+        with open(source, "rb") as file, contextlib.closing(_Stream(file, what)) as log:
             yield log
     elif _is_buffer(source):
-        with Held("source", source) as held:
+        with Held(what, source) as held:
             yield _Memory(held)
     else:
-        with contextlib.closing(_Stream(_binary("source", source, "read"))) as log:
+        with contextlib.closing(_Stream(_binary(what, source, "read"), what)) as log:
             yield log
 
 
@@ -198,15 +200,15 @@ def _binary(what: str, file: Any, method: str) -> IO[bytes]:
     return file  # type: ignore[no-any-return]
 
 
-def _read(file: IO[bytes], size: int) -> bytes:
-    """The next bytes of a file, fewer only at its end."""
+def _read(file: IO[bytes], size: int, what: str) -> bytes:
+    """The next bytes of a file, fewer only at its end; what it is called."""
     pieces, missing = [], size
     while missing:
         piece = file.read(missing)
         if piece is None:
-            raise BlockingIOError("the source is a file that does not wait for its data: open it as a blocking one")
+            raise BlockingIOError(f"the {what} is a file that does not wait for its data: open it as a blocking one")
         if not isinstance(piece, (bytes, bytearray, memoryview)):
-            raise TypeError(f"the source is a file that reads {type(piece).__name__}: open it in binary mode")
+            raise TypeError(f"the {what} is a file that reads {type(piece).__name__}: open it in binary mode")
         if not piece:
             break
         pieces.append(piece)
@@ -215,6 +217,17 @@ def _read(file: IO[bytes], size: int) -> bytes:
 
 
 # ---- the parts
+
+
+def whole_records(what: str, sheet: str, length: int, size: int) -> int:
+    """The records of so many bytes. A log that ends within one is refused."""
+    records, rest = divmod(length, size)
+    if rest:
+        raise ValueError(
+            f"the {what} has {length:,} bytes, no multiple of the {size:,} of its record: {rest:,} are left over behind "
+            f"{records:,} records. Pass whole records, or correct the {sheet}"
+        )
+    return records
 
 
 class Job:
@@ -230,19 +243,15 @@ class Job:
 
     def check_length(self, length: Optional[int]) -> None:
         """Refuses a log of a known length that ends within a record."""
-        if length is not None and length % self.source_size:
-            records, rest = divmod(length, self.source_size)
-            raise ValueError(
-                f"the source has {length:,} bytes, no multiple of the {self.source_size:,} of its record: {rest:,} are left over behind "
-                f"{records:,} records. Pass whole records, or correct the source sheet"
-            )
+        if length is not None:
+            whole_records("source", "source sheet", length, self.source_size)
 
     def check_room(self, records: int, out: Held) -> None:
         needs = records * self.destination_size
         if out.length < needs:
             raise Refusal(Number.ROOM, short=[Short(out.what, out.length, needs)])
 
-    def parts(self, log: _Log, records: Optional[int] = None) -> Iterator[tuple[int, int, _Where]]:
+    def parts(self, log: Log, records: Optional[int] = None) -> Iterator[tuple[int, int, Where]]:
         """Each part's first record, its number of records, and where they lie; at most so many records of the log, if that is said."""
         first = 0
         for where in log.chunks(self.records * self.source_size):
@@ -258,7 +267,7 @@ class Job:
         if records is not None and first < records:
             raise ValueError("the source became shorter while it was converted, so the destination has only its first records")
 
-    def go_over(self, log: _Log) -> int:
+    def go_over(self, log: Log) -> int:
         """Converts all parts for the refusals alone. Gives the number of records of the log, which can then be read again."""
         log.keep()
         records, out = 0, bytearray(self.records * self.destination_size)
@@ -268,7 +277,7 @@ class Job:
         log.rewind()
         return records
 
-    def write(self, log: _Log, file: IO[bytes], records: Optional[int] = None) -> int:
+    def write(self, log: Log, file: IO[bytes], records: Optional[int] = None) -> int:
         """Writes the converted parts to a file. Gives how many leaves raised an exception."""
         exceptions = 0
         for first, count, where in self.parts(log, records):
@@ -277,11 +286,11 @@ class Job:
             _write(file, data)
         return exceptions
 
-    def convert_into(self, data: bytearray, first: int, count: int, where: Optional[_Where]) -> int:
+    def convert_into(self, data: bytearray, first: int, count: int, where: Optional[Where]) -> int:
         with Held("destination", data, written=True) as out:
-            return self.convert(first, count, where or _Where(out.address, 0), _Where(out.address, out.length))
+            return self.convert(first, count, where or Where(out.address, 0), Where(out.address, out.length))
 
-    def convert(self, first: int, count: int, source: _Where, destination: _Where) -> int:
+    def convert(self, first: int, count: int, source: Where, destination: Where) -> int:
         """Converts the records of one part. A refusal names the record's number in the log."""
         answer = _library.run(
             _library.convert_copying,
@@ -296,7 +305,7 @@ class Job:
 # ---- the destination
 
 
-def _into_path(job: Job, log: _Log, path: Path) -> int:
+def _into_path(job: Job, log: Log, path: Path) -> int:
     """Into a new file beside the path, which then takes its name. What is no regular file, such as a device or a pipe, is written as a file."""
     target = os.path.realpath(path)
     mode = os.stat(target).st_mode if os.path.exists(target) else None
@@ -326,13 +335,13 @@ def _into_path(job: Job, log: _Log, path: Path) -> int:
     return exceptions
 
 
-def _into_file(job: Job, log: _Log, file: IO[bytes]) -> int:
+def _into_file(job: Job, log: Log, file: IO[bytes]) -> int:
     if isinstance(log, _Stream) and _same_file(log.file, file):
         raise ValueError("the source and the destination are one file: name its path as the destination, or another file")
     return job.write(log, file, job.go_over(log))
 
 
-def _into_buffer(job: Job, log: _Log, out: Held) -> int:
+def _into_buffer(job: Job, log: Log, out: Held) -> int:
     if isinstance(log, _Memory):
         out.apart(log.held)
     if log.length is not None:
@@ -342,7 +351,7 @@ def _into_buffer(job: Job, log: _Log, out: Held) -> int:
     exceptions = 0
     for first, count, where in job.parts(log, records):
         at = first * job.destination_size
-        exceptions += job.convert(first, count, where, _Where(out.address + at, out.length - at))
+        exceptions += job.convert(first, count, where, Where(out.address + at, out.length - at))
     return exceptions
 
 

@@ -1,7 +1,8 @@
 """A reading of sheets in Python, for explanations: which rule a line breaks, which members have no path, whose byte a leaf's first byte is,
-which int is too wide for a report.
+which int is too wide for a report, which of two compared leaves is a real.
 
-It explains and never decides: what counts is the library's answer.
+It explains and never decides: what counts is the library's answer. Which numbers of two compared logs are a real's is found here, since the library's
+list does not say it.
 """
 
 from __future__ import annotations
@@ -424,6 +425,21 @@ def _index(place: int, dimensions: tuple[int, ...]) -> str:
     return "".join(f"[{index}]" for index in indices)
 
 
+def are_reals(first: Type, second: Type, at: int) -> Optional[tuple[bool, bool]]:
+    """Whether the leaf on the way of the second type's leaf at a byte is a real in the first type, and in the second; None if no such leaf starts there."""
+    while True:
+        if isinstance(first, Compound) and isinstance(second, Compound):
+            member = next((member for member in second.members if member.at <= at < member.at + member.type.size), None)
+            other = next((other for other in first.members if member and other.name == member.name), None)
+            if member is None or other is None:
+                return None
+            first, second, at = other.type, member.type, at - member.at
+        elif isinstance(first, Array) and isinstance(second, Array):
+            first, second, at = first.base, second.base, at % second.base.size
+        else:
+            return None if at else (isinstance(first, Real), isinstance(second, Real))
+
+
 class Wide(NamedTuple):
     """An int leaf that is too wide for a report: its name, as of `leaf_name`, and its bits."""
 
@@ -458,22 +474,24 @@ class NoPath(NamedTuple):
     rule: str
 
 
-def no_path(source: Type, destination: Type, way: str = "") -> Optional[NoPath]:
-    """The first place without a path, in the order of the destination's lines."""
+def no_path(
+    source: Type, destination: Type, way: str = "", names: tuple[str, str] = ("source", "destination")
+) -> Optional[NoPath]:
+    """The first place without a path, in the order of the destination's lines. The sheets have these names."""
     if isinstance(source, Compound) and isinstance(destination, Compound):
         for member in destination.members:
             for other in source.members:
                 if other.name == member.name:
-                    found = no_path(other.type, member.type, f"{way}.{member.name}" if way else member.name)
+                    found = no_path(other.type, member.type, f"{way}.{member.name}" if way else member.name, names)
                     if found:
                         return found
         return None
     if isinstance(source, Array) and isinstance(destination, Array):
         if source.dimensions == destination.dimensions:
-            return no_path(source.base, destination.base, f"{way}[]")
+            return no_path(source.base, destination.base, f"{way}[]", names)
         ours, theirs = (" by ".join(map(str, array.dimensions)) for array in (source, destination))
-        return NoPath(way or None, f"the source has an array of {ours}, the destination one of {theirs}: give both the same dimensions")
+        return NoPath(way or None, f"the {names[0]} has an array of {ours}, the {names[1]} one of {theirs}: give both the same dimensions")
     ours, theirs = class_name(source), class_name(destination)
     if ours == theirs or {ours, theirs} == {"an int", "a real"}:
         return None
-    return NoPath(way or None, f"the source has {ours}, the destination {theirs}: give both the same class")
+    return NoPath(way or None, f"the {names[0]} has {ours}, the {names[1]} {theirs}: give both the same class")

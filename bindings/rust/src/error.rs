@@ -83,7 +83,8 @@ impl Kind {
 
 const NEGATIVE_ZERO: u64 = 1 << 63;
 
-/// The number that a destination leaf was given, as it stood in the source leaf: an enum's is the source's number, not the destination's.
+/// The number that a destination leaf was given, as it stood in the source leaf: an enum's is the source's number, not the destination's. Of two logs that are
+/// compared, the number that stands in a leaf.
 #[derive(Clone, Copy, Debug, PartialEq, Eq, Hash)]
 #[non_exhaustive]
 pub enum Given {
@@ -96,6 +97,14 @@ pub enum Given {
 }
 
 impl Given {
+    /// The number as a list of differences prints it, and whether its leaf is a real.
+    pub(crate) fn from_text(text: &str, is_real: bool) -> Option<Given> {
+        if is_real {
+            return text.parse().ok().map(Given::Real);
+        }
+        text.parse().ok().map(Given::Whole)
+    }
+
     fn from_words(given: u64, magnitude: u64) -> Given {
         match given {
             0 => Given::Whole(magnitude.into()),
@@ -138,6 +147,10 @@ pub enum Buffer {
     Background,
     /// The buffer for a list.
     List,
+    /// The first of two logs that are compared.
+    First,
+    /// The second of them.
+    Second,
 }
 
 impl fmt::Display for Buffer {
@@ -148,6 +161,8 @@ impl fmt::Display for Buffer {
             Buffer::InPlace => "buffer",
             Buffer::Background => "background",
             Buffer::List => "list buffer",
+            Buffer::First => "first log",
+            Buffer::Second => "second log",
         })
     }
 }
@@ -186,7 +201,7 @@ pub enum Error {
     Handling,
     /// The working table has fewer than [`TABLE_WORDS`](crate::TABLE_WORDS) words.
     Table,
-    /// The source (or only) sheet is faulty.
+    /// The source sheet, the first log's, or the only one, is faulty.
     #[non_exhaustive]
     Source {
         /// The first faulty line, from 1; 0 where the sheet is too long.
@@ -197,8 +212,10 @@ pub enum Error {
         rule: Option<String>,
         /// Whether the call had no other sheet.
         only: bool,
+        /// Whether the call compared two logs, and this is the first log's sheet.
+        compared: bool,
     },
-    /// The destination sheet is faulty.
+    /// The destination sheet, or the second log's, is faulty.
     #[non_exhaustive]
     Destination {
         /// As of [`Error::Source`].
@@ -207,14 +224,18 @@ pub enum Error {
         text: Option<String>,
         /// As of [`Error::Source`].
         rule: Option<String>,
+        /// Whether the call compared two logs, and this is the second log's sheet.
+        compared: bool,
     },
-    /// No path runs from the source type to the destination type.
+    /// No path runs from the source type to the destination type, or from the first log's type to the second's.
     #[non_exhaustive]
     Path {
         /// The member that has none, as `boost[0]`; empty for the record itself.
         member: Option<String>,
         /// Why, as "is an int in the source and bits in the destination", and what to do.
         why: Option<String>,
+        /// Whether the call compared two logs.
+        compared: bool,
     },
     /// More than 65,536 records in one call.
     Count,
@@ -306,6 +327,7 @@ impl Error {
         let [number, _, line, record, at, kind, given, magnitude] = answer;
         let (line, at) = (line as u32, at as u32);
         let (text, rule, member, why, short) = (None, None, None, None, None);
+        let compared = false;
         match number {
             1 => Error::Handling,
             2 => Error::Table,
@@ -314,9 +336,19 @@ impl Error {
                 text,
                 rule,
                 only: false,
+                compared,
             },
-            4 => Error::Destination { line, text, rule },
-            5 => Error::Path { member, why },
+            4 => Error::Destination {
+                line,
+                text,
+                rule,
+                compared,
+            },
+            5 => Error::Path {
+                member,
+                why,
+                compared,
+            },
             6 => Error::Count,
             7 => Error::Room { short },
             8 => Error::Stop {
@@ -375,12 +407,20 @@ impl fmt::Display for Error {
         match self {
             Error::Handling => f.write_str("handling is neither 0 (clamp) nor 1 (stop): pass one of them"),
             Error::Table => f.write_str("the working table is too short: lend at least 8,192 words"),
-            Error::Source { line, text, rule, only: true } => faulty(f, "sheet", *line, text, rule),
+            Error::Source { line, text, rule, only: true, .. } => faulty(f, "sheet", *line, text, rule),
+            Error::Source { line, text, rule, compared: true, .. } => faulty(f, "first sheet", *line, text, rule),
             Error::Source { line, text, rule, .. } => faulty(f, "source sheet", *line, text, rule),
-            Error::Destination { line, text, rule } => faulty(f, "destination sheet", *line, text, rule),
-            Error::Path { member: Some(member), why: Some(why) } => write!(f, "no path from the source type to the destination type: {} {why}", named(member)),
-            Error::Path { .. } => f.write_str("no path from the source type to the destination type: give members of one name the same class, or an int and a real, and arrays the same dimensions"),
-            Error::Count => f.write_str("more than 65,536 records in one call: convert them in parts, as convert_log does"),
+            Error::Destination { line, text, rule, compared: true } => faulty(f, "second sheet", *line, text, rule),
+            Error::Destination { line, text, rule, .. } => faulty(f, "destination sheet", *line, text, rule),
+            Error::Path { member, why, compared } => {
+                let (from, to) = if *compared { ("first log's", "second log's") } else { ("source", "destination") };
+                write!(f, "no path from the {from} type to the {to} type: ")?;
+                match (member, why) {
+                    (Some(member), Some(why)) => write!(f, "{} {why}", named(member)),
+                    _ => f.write_str("give members of one name the same class, or an int and a real, and arrays the same dimensions"),
+                }
+            }
+            Error::Count => f.write_str("more than 65,536 records in one call: go in parts, as convert_log and compare do"),
             Error::Room { short: Some(Short { buffer, holds, needs }) } => write!(f, "the {buffer} is too short: it holds {holds} bytes and needs {needs}: lend a longer one"),
             Error::Room { .. } => f.write_str("a buffer is too short for that many records, or for the list: lend a longer one"),
             Error::Stop { record, at, kind, given, member } => {

@@ -12,6 +12,8 @@ pub(crate) enum Call<'a> {
     InPlace(&'a Sheets<'a>, usize, usize),
     /// With the reader's sheet for the destination's, and the records that the memory holds. No report lends a buffer that is too short.
     Report(&'a Sheets<'a>, i64),
+    /// With the first log's sheet for the source's and the second's for the destination's; both logs, and the length of the list buffer.
+    Compare(&'a Sheets<'a>, &'a [u8], &'a [u8], usize),
     /// The length of the list buffer.
     List(&'a [u8], usize),
     Size(&'a [u8]),
@@ -20,9 +22,10 @@ pub(crate) enum Call<'a> {
 impl Call<'_> {
     fn source_sheet(&self) -> &[u8] {
         match self {
-            Call::Copying(sheets, ..) | Call::InPlace(sheets, ..) | Call::Report(sheets, _) => {
-                sheets.source
-            }
+            Call::Copying(sheets, ..)
+            | Call::InPlace(sheets, ..)
+            | Call::Report(sheets, _)
+            | Call::Compare(sheets, ..) => sheets.source,
             Call::List(sheet, _) | Call::Size(sheet) => sheet,
         }
     }
@@ -30,11 +33,16 @@ impl Call<'_> {
     /// None of a call of one sheet.
     fn destination_sheet(&self) -> Option<&[u8]> {
         match self {
-            Call::Copying(sheets, ..) | Call::InPlace(sheets, ..) | Call::Report(sheets, _) => {
-                Some(sheets.destination)
-            }
+            Call::Copying(sheets, ..)
+            | Call::InPlace(sheets, ..)
+            | Call::Report(sheets, _)
+            | Call::Compare(sheets, ..) => Some(sheets.destination),
             Call::List(..) | Call::Size(..) => None,
         }
+    }
+
+    fn is_comparison(&self) -> bool {
+        matches!(self, Call::Compare(..))
     }
 }
 
@@ -50,16 +58,29 @@ pub(crate) fn outcome(answer: Answer, call: &Call, table: &mut [u32]) -> Result<
             text,
             rule,
             only,
+            compared,
         } => {
             (*text, *rule) = fault(call.source_sheet(), *line);
             *only = call.destination_sheet().is_none();
+            *compared = call.is_comparison();
         }
-        Error::Destination { line, text, rule } => {
+        Error::Destination {
+            line,
+            text,
+            rule,
+            compared,
+        } => {
             if let Some(sheet) = call.destination_sheet() {
                 (*text, *rule) = fault(sheet, *line);
             }
+            *compared = call.is_comparison();
         }
-        Error::Path { member, why } => {
+        Error::Path {
+            member,
+            why,
+            compared,
+        } => {
+            *compared = call.is_comparison();
             if let Some(found) = no_path(call) {
                 *member = Some(found.member);
                 *why = Some(found.why);
@@ -103,7 +124,12 @@ fn destination(call: &Call) -> Option<Rc<sheet::Type>> {
 
 fn no_path(call: &Call) -> Option<sheet::NoPath> {
     let source = sheet::read(call.source_sheet()).ok()?;
-    sheet::no_path(&source, &*destination(call)?)
+    let names = if call.is_comparison() {
+        ("first sheet", "second")
+    } else {
+        ("source", "destination")
+    };
+    sheet::no_path(&source, &*destination(call)?, names)
 }
 
 /// The first buffer that holds less than it needs.
@@ -126,6 +152,22 @@ fn too_short(call: &Call, table: &mut [u32]) -> Option<Short> {
                 (Buffer::Background, *background, needs(d)),
             ]
         }
+        Call::Compare(sheets, first, second, list) => {
+            let needs = |size| sheets.count.saturating_mul(size);
+            let (s, d) = (size(sheets.source)?, size(sheets.destination)?);
+            let mut lent = vec![
+                (Buffer::First, first.len(), needs(s)),
+                (Buffer::Second, second.len(), needs(d)),
+            ];
+            if lent.iter().all(|(_, holds, needs)| *holds as u64 >= *needs) {
+                lent.push((
+                    Buffer::List,
+                    *list,
+                    listed(sheets, first, second, *list, table)?,
+                ));
+            }
+            lent
+        }
         Call::List(sheet, list) => {
             let whole = raw::leaf_list(sheet, &mut vec![0; LIST_BYTES], table);
             vec![(Buffer::List, *list, whole[1])]
@@ -139,4 +181,26 @@ fn too_short(call: &Call, table: &mut [u32]) -> Option<Short> {
             needs,
         })
         .find(|short| short.holds < short.needs)
+}
+
+/// The most bytes of a list that is made only to say how long it is.
+const MOST_LISTED: usize = 64 << 20;
+
+/// The length of a list of differences that has no room in so many bytes; none where it is too long to be made for that.
+fn listed(
+    sheets: &Sheets,
+    first: &[u8],
+    second: &[u8],
+    room: usize,
+    table: &mut [u32],
+) -> Option<u64> {
+    let mut room = room.max(1 << 12);
+    while room < MOST_LISTED {
+        room *= 4;
+        let answer = raw::compare(sheets, first, second, &mut vec![0; room], table);
+        if answer[0] == 0 {
+            return Some(answer[1]);
+        }
+    }
+    None
 }

@@ -1,5 +1,5 @@
-//! Converts records of instrument logs from one binary layout to another, reports on the numbers of many logs, lists a layout's leaves, and edits atomic
-//! layouts.
+//! Converts records of instrument logs from one binary layout to another, reports on the numbers of many logs, compares two logs, lists a layout's leaves, and
+//! edits atomic layouts.
 //!
 //! A layout sheet is text: lines ended by byte 10, fields parted by one tab. Here two pressures of 12 bits become whole 16-bit numbers:
 //!
@@ -16,6 +16,7 @@
 //! ```
 //!
 //! - [`convert_copying`] and [`convert_in_place`] convert up to 65,536 records in one call, and [`convert_log`] a log of any length.
+//! - [`compare`] gives each leaf where two logs differ, whatever their layouts.
 //! - [`Report`] adds up log after log: the lowest, the highest, the sum and the number of samples of each int.
 //! - [`leaf_list`] says where a sheet's numbers lie, [`record_size`] how many bytes its record has.
 //! - [`Layout`] is the layout of one number, with setters.
@@ -25,6 +26,7 @@
 //! nothing and keeps nothing, takes at most [`STACK_BYTES`] of its thread's stack, and any number of threads can make calls at once.
 #![deny(unsafe_code, missing_docs, missing_debug_implementations)]
 
+mod compare;
 mod error;
 mod explain;
 mod layout;
@@ -36,12 +38,13 @@ mod sheet;
 #[cfg(test)]
 mod tests;
 
+pub use compare::{compare, Difference, Differences};
 pub use error::{Buffer, Error, Given, Kind, Short};
 use explain::Call;
 pub use layout::{Class, Layout, Order, Pad, Sign};
 pub use log::{
     convert_log, convert_log_parts, Input, LogConverter, LogError, Output, Part, Parts, Progress,
-    ReadSeek, Totals,
+    ReadSeek, Totals, WhichLog,
 };
 use raw::Sheets;
 pub use report::{Report, Row, SavedError, Summary};
@@ -52,10 +55,16 @@ pub const TABLE_WORDS: usize = 8192;
 /// A buffer of this many bytes holds the leaf list of any sheet.
 pub const LIST_BYTES: usize = 14 + 4096 * 12;
 
+/// A list of k differences has at most [`COMPARE_HEADER_BYTES`] + k × [`COMPARE_LINE_BYTES`] bytes.
+pub const COMPARE_HEADER_BYTES: usize = 23;
+
+/// As of [`COMPARE_HEADER_BYTES`].
+pub const COMPARE_LINE_BYTES: usize = 53;
+
 /// The most bytes that any call takes of its thread's stack.
 pub const STACK_BYTES: usize = 163_840;
 
-/// The most that a call takes where the destination record has at most 128 bytes, and where it converts nothing.
+/// The most that a call takes where the destination record, or the second log's, has at most 128 bytes, and where it has no records.
 pub const SMALL_STACK_BYTES: usize = 49_152;
 
 /// What to do with numbers that do not fit.
@@ -171,6 +180,25 @@ impl Converter {
         let answer = raw::convert_in_place_plain(&sheets, buffer, background, table);
         let call = Call::InPlace(&sheets, buffer.len(), background.len());
         explain::outcome(answer, &call, table)
+    }
+
+    /// Writes the list of differences of count records of two logs into a buffer, and gives its length, which is [`COMPARE_HEADER_BYTES`] exactly if nothing
+    /// differs. Bytes past it stay. The list has a header, `record`, `at`, `first` and `second` parted by tabs, then a line for each difference.
+    /// [`compare`](crate::compare()) says what differs, takes logs of any length and gives the differences as numbers.
+    pub fn compare_into(
+        &mut self,
+        first_sheet: &[u8],
+        second_sheet: &[u8],
+        count: u64,
+        first: &[u8],
+        second: &[u8],
+        list: &mut [u8],
+    ) -> Result<usize, Error> {
+        let sheets = sheets(first_sheet, second_sheet, count);
+        let table = &mut self.table;
+        let answer = raw::compare(&sheets, first, second, list, table);
+        let call = Call::Compare(&sheets, first, second, list.len());
+        explain::outcome(answer, &call, table).map(|len| len as usize)
     }
 
     /// Writes the leaf list of a sheet into a buffer, and gives its length. Bytes past it stay. [`LIST_BYTES`] are enough for any sheet.

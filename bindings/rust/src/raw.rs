@@ -84,6 +84,22 @@ mod c {
             table_len: usize,
             answer: *mut u64,
         ) -> u32;
+        pub fn yirvagul_compare(
+            first_sheet: *const u8,
+            first_sheet_len: usize,
+            second_sheet: *const u8,
+            second_sheet_len: usize,
+            count: u64,
+            first: *const u8,
+            first_len: usize,
+            second: *const u8,
+            second_len: usize,
+            list: *mut u8,
+            list_len: usize,
+            table: *mut u32,
+            table_len: usize,
+            answer: *mut u64,
+        ) -> u32;
         pub fn yirvagul_leaf_list(
             sheet: *const u8,
             sheet_len: usize,
@@ -108,7 +124,7 @@ mod c {
     }
 }
 
-/// The two sheets and the count of a call that converts.
+/// The two sheets and the count of a call that has two.
 pub struct Sheets<'a> {
     pub source: &'a [u8],
     pub destination: &'a [u8],
@@ -253,6 +269,37 @@ pub fn report(
             memory.len(),
             output.as_mut_ptr(),
             output.len(),
+            table.as_mut_ptr(),
+            table.len(),
+            answer.as_mut_ptr(),
+        );
+    }
+    answer
+}
+
+/// The source sheet is the first log's, the destination sheet the second's.
+pub fn compare(
+    sheets: &Sheets,
+    first: &[u8],
+    second: &[u8],
+    list: &mut [u8],
+    table: &mut [u32],
+) -> Answer {
+    let mut answer = [0; 8];
+    // SAFETY: each pointer is a slice's, with that slice's length.
+    unsafe {
+        c::yirvagul_compare(
+            sheets.source.as_ptr(),
+            sheets.source.len(),
+            sheets.destination.as_ptr(),
+            sheets.destination.len(),
+            sheets.count,
+            first.as_ptr(),
+            first.len(),
+            second.as_ptr(),
+            second.len(),
+            list.as_mut_ptr(),
+            list.len(),
             table.as_mut_ptr(),
             table.len(),
             answer.as_mut_ptr(),

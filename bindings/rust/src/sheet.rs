@@ -1,5 +1,6 @@
 //! This crate's own reading of sheets. It explains what the library refused: the rule that a line breaks, where two types have no path, which leaf stands at a
-//! byte, which is too wide for a report. The library alone decides; where this reading comes to another place than the library, it explains nothing.
+//! byte, which is too wide for a report. The library alone decides; where this reading comes to another place than the library, it explains nothing. It also
+//! says which numbers of two compared logs are the bits of a real, since the library's list does not.
 use std::rc::Rc;
 
 const MOST_BYTES: usize = 16_384;
@@ -588,15 +589,18 @@ pub(crate) struct NoPath {
     pub why: String,
 }
 
+/// What the two sheets are called, as `source` and `destination`.
+type Names<'a> = (&'a str, &'a str);
+
 /// The first place, in the order of the destination's members, at which there is no path.
-pub(crate) fn no_path(source: &Type, destination: &Type) -> Option<NoPath> {
+pub(crate) fn no_path(source: &Type, destination: &Type, names: Names) -> Option<NoPath> {
     let mut way = String::new();
-    let why = descend(source, destination, &mut way)?;
+    let why = descend(source, destination, names, &mut way)?;
     Some(NoPath { member: way, why })
 }
 
 /// Goes down both types at once. Where there is no path, the way stays at that place.
-fn descend(source: &Type, destination: &Type, way: &mut String) -> Option<String> {
+fn descend(source: &Type, destination: &Type, names: Names, way: &mut String) -> Option<String> {
     let len = way.len();
     match (&source.class, &destination.class) {
         (Class::Int { .. } | Class::Real, Class::Int { .. } | Class::Real)
@@ -608,7 +612,7 @@ fn descend(source: &Type, destination: &Type, way: &mut String) -> Option<String
                     continue;
                 };
                 push_name(way, &member.name);
-                if let Some(why) = descend(&other.of, &member.of, way) {
+                if let Some(why) = descend(&other.of, &member.of, names, way) {
                     return Some(why);
                 }
                 way.truncate(len);
@@ -624,22 +628,26 @@ fn descend(source: &Type, destination: &Type, way: &mut String) -> Option<String
         ) => {
             if lengths != dimensions {
                 return Some(format!(
-                    "is an array of {} in the source and of {} in the destination: give both the same dimensions",
+                    "is an array of {} in the {} and of {} in the {}: give both the same dimensions",
                     by(lengths),
-                    by(dimensions)
+                    names.0,
+                    by(dimensions),
+                    names.1
                 ));
             }
             push_element(way, dimensions, 0);
-            let why = descend(from, base, way);
+            let why = descend(from, base, names, way);
             if why.is_none() {
                 way.truncate(len);
             }
             why
         }
         (from, to) => Some(format!(
-            "is {} in the source and {} in the destination: give both the same class",
+            "is {} in the {} and {} in the {}: give both the same class",
             from.word(),
-            to.word()
+            names.0,
+            to.word(),
+            names.1
         )),
     }
 }
@@ -667,6 +675,31 @@ pub(crate) fn leaf_at(record: &Type, at: u32) -> Option<String> {
                 of = base;
             }
             _ => return (at == 0).then_some(way),
+        }
+    }
+}
+
+/// Whether the leaf that starts at a byte of the second record is a real, and whether the leaf of the first record on the same way is one, that first.
+pub(crate) fn are_reals(first: &Type, second: &Type, at: u32) -> Option<(bool, bool)> {
+    let (mut first, mut second, mut at) = (first, second, at);
+    loop {
+        match (&first.class, &second.class) {
+            (Class::Comp { members: others }, Class::Comp { members }) => {
+                let member = members
+                    .iter()
+                    .find(|m| (m.at..m.at + m.of.size).contains(&at))?;
+                first = &others.iter().find(|other| other.name == member.name)?.of;
+                second = &member.of;
+                at -= member.at;
+            }
+            (Class::Array { base: other, .. }, Class::Array { base, .. }) => {
+                at %= base.size;
+                (first, second) = (other, base);
+            }
+            (one, other) => {
+                let is_real = |class: &Class| matches!(class, Class::Real);
+                return (at == 0).then_some((is_real(one), is_real(other)));
+            }
         }
     }
 }

@@ -1,9 +1,9 @@
-//! What a log of 24 MB takes of memory, converted and reported.
+//! What a log of 24 MB takes of memory, converted, reported and compared.
 use std::alloc::{GlobalAlloc, Layout, System};
 use std::io::{self, Read};
 use std::path::Path;
 use std::sync::atomic::{AtomicUsize, Ordering};
-use yirvagul::{Handling, Input, LogConverter, Output, Report};
+use yirvagul::{compare, Handling, Input, LogConverter, Output, Report};
 
 /// Counts what is held, and the most that was.
 struct Counting;
@@ -74,5 +74,19 @@ fn a_few_megabytes_are_held() {
             report.add(sheet, Input::Stream(&mut zeros)).unwrap();
         });
         assert!(reported < 6 << 20, "{reported}");
+    }
+    // nothing differs, and everything
+    for sheet in [&small[..], large] {
+        for byte in [0, 255] {
+            let mut first = io::repeat(0).take(BYTES / 16);
+            let mut second = io::repeat(byte).take(BYTES / 16);
+            let mut rows = 0;
+            let compared = held(|| {
+                let (first, second) = (Input::Stream(&mut first), Input::Stream(&mut second));
+                rows = compare(sheet, sheet, first, second).unwrap().count();
+            });
+            assert_eq!(rows > 0, byte > 0);
+            assert!(compared < 7 << 20, "{compared}");
+        }
     }
 }

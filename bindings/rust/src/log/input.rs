@@ -72,7 +72,7 @@ impl<'a> From<&'a mut File> for Input<'a> {
 }
 
 /// An input that is open.
-pub(super) struct Source<'a> {
+pub(crate) struct Source<'a> {
     /// For messages, as "rig.log" or "the log".
     name: String,
     reader: Reader<'a>,

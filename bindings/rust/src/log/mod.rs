@@ -4,10 +4,11 @@ mod output;
 mod run;
 
 use crate::{Error, Handling};
-use input::Source;
+pub(crate) use input::Source;
 pub use input::{Input, ReadSeek};
 pub(crate) use output::replace;
 pub use output::Output;
+pub(crate) use run::{sized, PART_BYTES, PART_RECORDS};
 use run::{Feed, Plan, Run, Take};
 pub use run::{Part, Parts};
 use std::{fmt, io};
@@ -224,7 +225,29 @@ pub struct Totals {
     pub exceptions: u64,
 }
 
-/// Why a log was not converted.
+/// Which log of a call an error is about.
+#[derive(Clone, Copy, Debug, PartialEq, Eq, Hash)]
+#[non_exhaustive]
+pub enum WhichLog {
+    /// The only one.
+    Only,
+    /// The first of two that are compared.
+    First,
+    /// The second of them.
+    Second,
+}
+
+impl fmt::Display for WhichLog {
+    fn fmt(&self, f: &mut fmt::Formatter) -> fmt::Result {
+        f.write_str(match self {
+            WhichLog::Only => "the log",
+            WhichLog::First => "the first log",
+            WhichLog::Second => "the second log",
+        })
+    }
+}
+
+/// Why a log was not converted, reported or compared.
 #[derive(Debug)]
 #[non_exhaustive]
 pub enum LogError {
@@ -237,6 +260,18 @@ pub enum LogError {
         bytes: u64,
         /// Its record's bytes.
         size: u64,
+        /// Which log it is.
+        which: WhichLog,
+    },
+    /// Two logs that are compared have not as many records.
+    #[non_exhaustive]
+    Uneven {
+        /// The first log's records.
+        first: u64,
+        /// The second log's records.
+        second: u64,
+        /// Whether the longer one is a stream, which was read no further than so.
+        or_more: bool,
     },
     /// The background is neither one destination record nor as many as the log has.
     #[non_exhaustive]
@@ -259,7 +294,7 @@ pub enum LogError {
 }
 
 impl LogError {
-    fn io(doing: impl Into<String>, error: io::Error) -> LogError {
+    pub(crate) fn io(doing: impl Into<String>, error: io::Error) -> LogError {
         LogError::Io {
             doing: doing.into(),
             error,
@@ -271,11 +306,20 @@ impl fmt::Display for LogError {
     fn fmt(&self, f: &mut fmt::Formatter) -> fmt::Result {
         match self {
             LogError::Refused(error) => error.fmt(f),
-            LogError::Ragged { bytes, size } => write!(
+            LogError::Ragged { bytes, size, which } => write!(
                 f,
-                "the log has {bytes} bytes, which is no multiple of its record's {size}: complete the last record or cut its {} bytes off, or correct the sheet",
+                "{which} has {bytes} bytes, which is no multiple of its record's {size}: complete the last record or cut its {} bytes off, or correct the sheet",
                 bytes % size
             ),
+            LogError::Uneven { first, second, or_more } => {
+                let more = |records, other| if *or_more && records > other { " or more" } else { "" };
+                write!(
+                    f,
+                    "the first log has {first} records{} and the second {second}{}: compare logs of as many records",
+                    more(first, second),
+                    more(second, first)
+                )
+            }
             LogError::Background { bytes, size, records } => write!(
                 f,
                 "the background has {bytes} bytes: give one destination record, which is {size} bytes, or as many as the log has, which is {records} x {size} bytes"

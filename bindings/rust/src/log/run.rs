@@ -1,16 +1,16 @@
 //! One log, gone over in parts, by one thread or several.
 use super::input::Source;
-use super::{LogError, Progress, Totals};
+use super::{LogError, Progress, Totals, WhichLog};
 use crate::{Converter, Error, Handling, STACK_BYTES};
 use std::io::ErrorKind;
 use std::sync::mpsc::{self, Receiver, Sender};
 use std::{fmt, thread};
 
 /// The most records of one call.
-const PART_RECORDS: usize = 65_536;
+pub(crate) const PART_RECORDS: usize = 65_536;
 
 /// The most bytes of a part's source, or of what it is converted to.
-const PART_BYTES: usize = 2 << 20;
+pub(crate) const PART_BYTES: usize = 2 << 20;
 
 /// The most bytes that all parts have together, sources and what they are converted to.
 const ALL_BYTES: usize = 32 << 20;
@@ -200,7 +200,8 @@ impl<'a> Feed<'a> {
         if let Some(bytes) = log.len() {
             let size = plan.from as u64;
             if bytes % size != 0 {
-                return Err(LogError::Ragged { bytes, size });
+                let which = WhichLog::Only;
+                return Err(LogError::Ragged { bytes, size, which });
             }
             ground.serves(bytes / size, plan.to as u64)?;
         }
@@ -244,6 +245,7 @@ impl<'a> Feed<'a> {
             return Err(LogError::Ragged {
                 bytes: self.bytes,
                 size: from as u64,
+                which: WhichLog::Only,
             });
         }
         job.source.truncate(n);
@@ -287,7 +289,7 @@ impl Feed<'_> {
 }
 
 /// Makes a buffer so long, with zeros behind what it has.
-fn sized(buffer: &mut Vec<u8>, len: usize) -> Result<(), LogError> {
+pub(crate) fn sized(buffer: &mut Vec<u8>, len: usize) -> Result<(), LogError> {
     let more = len.saturating_sub(buffer.len());
     let room = buffer.try_reserve_exact(more);
     room.map_err(|_| LogError::io("hold a part of the log", ErrorKind::OutOfMemory.into()))?;

@@ -325,6 +325,8 @@ fn the_header_has_these_numbers() {
         ("TABLE_WORDS", TABLE_WORDS),
         ("STACK_BYTES", STACK_BYTES),
         ("SMALL_STACK_BYTES", SMALL_STACK_BYTES),
+        ("COMPARE_HEADER_BYTES", COMPARE_HEADER_BYTES),
+        ("COMPARE_LINE_BYTES", COMPARE_LINE_BYTES),
     ] {
         let line = format!("\n#define YIRVAGUL_{name} {value}\n");
         assert!(HEADER.contains(&line), "{line}");

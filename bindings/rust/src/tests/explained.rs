@@ -282,6 +282,7 @@ fn a_fault_that_the_library_places_elsewhere_is_not_explained() {
             text: Some(_),
             rule: None,
             only: true,
+            compared: false,
         }
     ));
 }
@@ -337,7 +338,7 @@ fn all_other_texts() {
     );
     assert_eq!(
         said(6),
-        "COUNT (6): more than 65,536 records in one call: convert them in parts, as convert_log does"
+        "COUNT (6): more than 65,536 records in one call: go in parts, as convert_log and compare do"
     );
     assert_eq!(
         said(10),

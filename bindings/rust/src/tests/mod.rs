@@ -1,5 +1,6 @@
 //! Tests of the calls, and of what is said of a refusal.
 mod calls;
+mod compares;
 mod explained;
 mod reports;
 mod rules;

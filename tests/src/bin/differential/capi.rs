@@ -1,5 +1,6 @@
 //! The calls of the library under test, each with guarded buffers.
 
+use crate::compare_run::CompareRun;
 use crate::lent::Lent;
 use crate::random::Random;
 use crate::report_run::{ReportRun, ReportSeen};
@@ -35,6 +36,12 @@ unsafe extern "C" {
         reader_sheet: *const u8, reader_sheet_len: usize, count: u64,
         log: *mut u8, log_len: usize, background: *const u8, background_len: usize,
         memory: *mut i64, memory_len: usize, output: *mut u8, output_len: usize,
+        table: *mut u32, table_len: usize, answer: *mut Answer) -> u32;
+    fn yirvagul_compare(
+        first_sheet: *const u8, first_sheet_len: usize,
+        second_sheet: *const u8, second_sheet_len: usize, count: u64,
+        first: *const u8, first_len: usize, second: *const u8, second_len: usize,
+        list: *mut u8, list_len: usize,
         table: *mut u32, table_len: usize, answer: *mut Answer) -> u32;
     fn yirvagul_leaf_list(sheet: *const u8, sheet_len: usize, list: *mut u8, list_len: usize,
         table: *mut u32, table_len: usize, answer: *mut Answer) -> u32;
@@ -126,6 +133,32 @@ pub fn report(random: &mut Random, run: &ReportRun) -> Result<ReportSeen, String
         output: seen.written,
         table: seen.table,
     })
+}
+
+/// Compares two logs, which may be lent as one buffer.
+pub fn compare(random: &mut Random, run: &CompareRun) -> Result<Seen, String> {
+    let mut from = bytes(random, &run.first_sheet);
+    let mut to = bytes(random, &run.second_sheet);
+    let mut first = bytes(random, &run.first);
+    let mut second = bytes(random, &run.second);
+    let mut list = bytes(random, &run.list);
+    let mut table = words(random, &run.table);
+    let mut answer = answer(random);
+    let lent = if run.is_one { &mut first } else { &mut second };
+    let (other, other_len) = (lent.pointer(), lent.len());
+    #[rustfmt::skip]
+    let returned = unsafe {
+        yirvagul_compare(
+            from.pointer(), from.len(), to.pointer(), to.len(), run.count,
+            first.pointer(), first.len(), other, other_len,
+            list.pointer(), list.len(),
+            table.pointer(), table.len(), answer.pointer().cast())
+    };
+    whole("the first sheet", from.unchanged())?;
+    whole("the second sheet", to.unchanged())?;
+    whole("the first log", first.unchanged())?;
+    whole("the second log", second.unchanged())?;
+    seen(returned, list, table, answer)
 }
 
 /// Runs the leaf list.

@@ -4,6 +4,10 @@
 //! another, `--cases M` so many, and `--seed N --case K` one alone.
 
 mod capi;
+mod compare_events;
+mod compare_laws;
+mod compare_run;
+mod compares;
 mod convert;
 mod damage;
 mod derive;
@@ -36,7 +40,7 @@ use random::Random;
 use tally::Tally;
 
 const SEED: u64 = 20_260_101;
-const CASES: u64 = 75_000;
+const CASES: u64 = 82_000;
 
 #[derive(Default)]
 pub struct Options {
@@ -114,7 +118,7 @@ fn run_cases(options: &Options) -> bool {
 }
 
 fn run_case(random: &mut Random, tally: &mut Tally) -> Result<(), String> {
-    let choice = random.below(1360);
+    let choice = random.below(1490);
     let (kind, result) = match choice {
         0 => (
             "conversion of 65,536 records",
@@ -148,7 +152,21 @@ fn run_case(random: &mut Random, tally: &mut Tally) -> Result<(), String> {
         ),
         1195..=1249 => ("report's laws", report_laws::case(random, tally)),
         1250..=1299 => ("conversion of reals", convert::real_case(random, tally)),
-        _ => ("conversion that stops", stops::case(random, tally)),
+        1300..=1359 => ("conversion that stops", stops::case(random, tally)),
+        1360 => (
+            "comparison of 65,536 records",
+            compares::long_case(random, tally),
+        ),
+        1361..=1374 => (
+            "comparison at the limits",
+            compares::limit_case(random, tally),
+        ),
+        1375..=1434 => ("comparison", compares::case(random, tally, 3)),
+        1435..=1459 => (
+            "comparison with many refusals",
+            compares::case(random, tally, 25),
+        ),
+        _ => ("comparison's laws", compare_laws::case(random, tally)),
     };
     tally.saw(&format!("case: {kind}"));
     result.map_err(|fault| format!("({kind}) {fault}"))

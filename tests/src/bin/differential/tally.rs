@@ -1,6 +1,7 @@
 //! What was seen, and what must have been seen for the tests to mean
 //! something.
 
+use crate::compare_events;
 use crate::fields;
 use crate::real_events;
 use crate::run::{FORMS, Form};
@@ -140,6 +141,7 @@ impl Tally {
             &real_events::REPORT_NEEDED,
             &fields::NEEDED,
             &stop_events::NEEDED,
+            &compare_events::NEEDED,
         ];
         let all = lists.iter().flat_map(|list| list.iter());
         let mut needed: Vec<String> = all.map(|what| what.to_string()).collect();
@@ -164,6 +166,7 @@ fn answers() -> Vec<String> {
         }
     }
     add("report", &[0, 2, 3, 4, 5, 6, 7, 10, 11]);
+    add("compare", &[0, 2, 3, 4, 5, 6, 7]);
     add("leaf list", &[0, 2, 3, 7]);
     add("record size", &[0, 2, 3]);
     for setter in ["size", "field", "order", "pads", "sign"] {

@@ -2,7 +2,9 @@
 //!
 //! Some millions of patterns go through the library's C calls, through the
 //! independent converter and through the machine's conversions. All three must
-//! give the same number, the same exceptions and the same kinds.
+//! give the same number, the same exceptions and the same kinds. What they
+//! became is then compared with what they were: all three must find the same ones
+//! different.
 //!
 //! `machine` runs a fixed seed, `machine N` another one.
 
@@ -13,6 +15,7 @@ mod numbers;
 mod random;
 mod sheets;
 
+use independent::compare;
 use independent::datatype::Atomic;
 use independent::number;
 use independent::real;
@@ -34,6 +37,12 @@ unsafe extern "C" {
         source_sheet: *const u8, source_sheet_len: usize,
         destination_sheet: *const u8, destination_sheet_len: usize, count: u64, handling: u32,
         source: *const u8, source_len: usize, destination: *mut u8, destination_len: usize,
+        table: *mut u32, table_len: usize, answer: *mut [u64; 8]) -> u32;
+    fn yirvagul_compare(
+        first_sheet: *const u8, first_sheet_len: usize,
+        second_sheet: *const u8, second_sheet_len: usize, count: u64,
+        first: *const u8, first_len: usize, second: *const u8, second_len: usize,
+        list: *mut u8, list_len: usize,
         table: *mut u32, table_len: usize, answer: *mut [u64; 8]) -> u32;
 }
 
@@ -105,6 +114,12 @@ fn machine_to_int(layout: &Atomic, pattern: u64) -> Became {
         let is_lost = float.fract() != 0.0 || (float == 0.0 && float.is_sign_negative());
         (number, is_lost.then_some(5))
     }
+}
+
+/// Whether a real is worth just a whole number.
+fn machine_is_worth(pattern: u64, number: i128) -> bool {
+    let float = f64::from_bits(pattern);
+    float.is_finite() && float.fract() == 0.0 && float as i128 == number
 }
 
 // ---- the paths
@@ -226,6 +241,57 @@ impl Path {
             if answer != wanted {
                 return Err(format!("{} answers {answer:?}: {self}", numbers[i]));
             }
+        }
+        self.compare(&source, &records, numbers, expected)
+    }
+
+    /// Whether a number and what it became are the same, as the machine has it.
+    fn is_same(&self, number: i128, became: i128) -> Result<bool, String> {
+        let is_real = |sheet: &str| sheet.starts_with("real");
+        let (pattern, whole) = match (is_real(&self.from.0), is_real(&self.to.0)) {
+            (true, false) => (number as u64, became),
+            (false, true) => (became as u64, number),
+            _ => return Ok(number == became),
+        };
+        let machine = machine_is_worth(pattern, whole);
+        if compare::is_worth(pattern, whole) != machine {
+            return Err(format!(
+                "{pattern:#X} beside {whole}: the machine says {machine}"
+            ));
+        }
+        Ok(machine)
+    }
+
+    /// Holds the library's list of what differs against the machine.
+    fn compare(
+        &self,
+        source: &[u8],
+        records: &[u8],
+        numbers: &[i128],
+        expected: &[Became],
+    ) -> Result<(), String> {
+        let mut wanted = String::from("record\tat\tfirst\tsecond\n");
+        for (i, (number, (became, _))) in numbers.iter().zip(expected).enumerate() {
+            if !self.is_same(*number, *became)? {
+                wanted.push_str(&format!("{i}\t0\t{number}\t{became}\n"));
+            }
+        }
+        let (from, to) = (&self.from.0, &self.to.0);
+        let mut list = vec![0; wanted.len()];
+        let mut table = vec![0_u32; 8192];
+        let mut answer = [0; 8];
+        #[rustfmt::skip]
+        unsafe {
+            yirvagul_compare(
+                from.as_ptr(), from.len(), to.as_ptr(), to.len(), numbers.len() as u64,
+                source.as_ptr(), source.len(), records.as_ptr(), records.len(),
+                list.as_mut_ptr(), list.len(),
+                table.as_mut_ptr(), table.len(), &mut answer)
+        };
+        if answer[..2] != [0, wanted.len() as u64] || list != wanted.as_bytes() {
+            return Err(format!(
+                "answer {answer:?}, another list than expected: {self}"
+            ));
         }
         Ok(())
     }
