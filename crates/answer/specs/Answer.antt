@@ -1,9 +1,9 @@
 -- Document 01, "Numbers of refusal, in the order of checks": the number of each answer, and every field beside it. Document 02, 2026-01: "10 CHANNEL",
--- "11 FULL", with no fields; 2026-05: "8 gains the field" of the number that was given.
+-- "11 FULL", with no fields; 2026-07: "12 SYMBOLS", with none; 2026-05: "8 gains the field" of the number that was given.
 use mathlib.Core.Bool.{true, false}
 use Prim.Native.Nat.{ℕ}
 use Rattle.answer.specs.declared.Answer.{Answer}
-use Rattle.answer.specs.declared.Answer.the-variants.{Done, Handling, Table, Source, Destination, Path, Count, Room, Stop, Range, Channel, Full}
+use Rattle.answer.specs.declared.Answer.the-variants.{Done, Handling, Table, Source, Destination, Path, Count, Room, Stop, Range, Channel, Full, Symbols}
 use Rattle.answer.specs.declared.Values.{Values}
 use Rattle.answer.specs.declared.Given.{Given}
 use Rattle.answer.specs.declared.Given.the-variants.{Whole, Real}
@@ -22,6 +22,7 @@ numberOf (Stop i at kind given) = 8
 numberOf Range = 9
 numberOf Channel = 10
 numberOf Full = 11
+numberOf Symbols = 12
 
 -- "sign and magnitude, or the 64 bits for a real": 0 for a number from 0 up, 1 for a negative one, 2 for a real
 abbrev pub givenSign : Given → ℕ
@@ -55,3 +56,4 @@ valuesOf (Stop i at kind given) =
 valuesOf Range = unnamed
 valuesOf Channel = unnamed
 valuesOf Full = unnamed
+valuesOf Symbols = unnamed

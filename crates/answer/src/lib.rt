@@ -20,6 +20,8 @@ pub enum Answer {
     Channel,
     // The report takes no more records, or holds what no report leaves.
     Full,
+    // A symbol of a source enum does not stand in the destination enum that it is matched with.
+    Symbols,
 }
 
 // The number that was given to the step that fits a number into its destination: a whole number by its sign, true where it is negative, and its magnitude, or
@@ -65,6 +67,7 @@ pub fn number_of(a: Answer) -> u32
         Answer::Range => 9,
         Answer::Channel => 10,
         Answer::Full => 11,
+        Answer::Symbols => 12,
     }
 }
 
@@ -164,5 +167,6 @@ pub fn values_of(a: Answer) -> Values
         Answer::Range => bare(),
         Answer::Channel => bare(),
         Answer::Full => bare(),
+        Answer::Symbols => bare(),
     }
 }

@@ -1,4 +1,4 @@
-// Checks 3 to 7 of a converting call: two sheets, the path between their types, the count and the room.
+// Checks 3 to 7 and 12 of a converting call: two sheets, the path between their types, the symbols, the count and the room.
 ghost use mathlib.Core.Path.{_≡_};
 ghost use mathlib.Core.List.{List};
 ghost use Prim.Native.Nat.{ℕ, _≤_};
@@ -9,6 +9,7 @@ ghost use Rattle.conversion.specs.Call.{formOf, sourceOf, backgroundOf, Records
 use answer::Answer;
 use conversion::Checks;
 use path_search::has_path;
+use symbol_sets::keeps_symbols;
 use table::HALF;
 use table::SIZE;
 use table::read::type_word;
@@ -77,7 +78,7 @@ pub fn check_records(
     Checks::Pass(source_type, destination_type)
 }
 
-// Checks 5 to 7: the path before them.
+// Checks 5 and 12 before them: the path and the symbols.
 pub fn check_types(
     in_place: bool,
     source_sheet: &[u8],
@@ -102,6 +103,16 @@ pub fn check_types(
         destination_type,
     ) {
         return Checks::Refuse(Answer::Path);
+    }
+    if !keeps_symbols(
+        source_half,
+        source_sheet,
+        source_type,
+        destination_half,
+        destination_sheet,
+        destination_type,
+    ) {
+        return Checks::Refuse(Answer::Symbols);
     }
     check_records(
         in_place,
@@ -146,7 +157,7 @@ fn check_halves(
     )
 }
 
-// Checks 3 to 7. The table then holds what was read of the sheets.
+// All of them. The table then holds what was read of the sheets.
 pub fn check_sheets(
     in_place: bool,
     source_sheet: &[u8],

@@ -12,6 +12,7 @@ use Rattle.answer.specs.declared.Answer.{Answer}
 use Rattle.answer.specs.declared.Answer.the-variants as answer
 use Rattle.datatype.specs.Datatype.{Datatype, size}
 use Rattle.datatype.specs.Paths.{hasPath}
+use Rattle.datatype.specs.SymbolSets.{keepsSymbols}
 use Rattle.datatype.proofs.Matches.{size-most}
 use Rattle.datatype.proofs.Tests.{and-true}
 use Rattle.table.specs.Table.{decode, typeAt, sizeWord}
@@ -27,7 +28,7 @@ use Rattle.two_sheets.proofs.Halves.{rest-is, types-both}
 use Rattle.conversion.specs.declared.Checks.{Checks}
 use Rattle.conversion.specs.declared.Checks.the-variants.{Refuse, Pass}
 use Rattle.conversion.specs.Call.{formOf, sourceOf, backgroundOf, HasRecords, ConvertsIn, sheetsChecked, recordsChecked, typesChecked, Passes, RecordsSay, TypesSay, SheetsSay}
-use Rattle.conversion.proofs.Parts.{no-path, behind-path, many, no-room, all-pass, denied, granted, product-fits, copying-short, copying-small, copying-room, in-place-short, in-place-grown, in-place-small, in-place-room, source-faulty, destination-faulty, both-read}
+use Rattle.conversion.proofs.Parts.{no-path, lost-symbols, behind-types, many, no-room, all-pass, denied, granted, product-fits, copying-short, copying-small, copying-room, in-place-short, in-place-grown, in-place-small, in-place-room, source-faulty, destination-faulty, both-read}
 
 -- ---- room
 
@@ -129,14 +130,18 @@ module _ (b : Bool) (ss ds : List ℕ) (n out other : ℕ) (ws : List ℕ) (i : 
     pub refuse-path : not p ≡ true → TypesSay b ss ds n out other ws i wd k (Refuse answer.Path)
     refuse-path h = no-path (formOf b) n (sourceOf b out other) (backgroundOf b out other) S D (denied _ _ path h)
 
-    -- behind the path, the checks of the records are left
-    module _ (h : not p ≡ false) where
-      records-left : typesChecked b n out other (typeAt ws ss i) (typeAt wd ds k) ≡ recordsChecked b n out other (typeAt ws ss i) (typeAt wd ds k)
-      records-left = behind-path (formOf b) n (sourceOf b out other) (backgroundOf b out other) S D (granted _ _ path h)
+    module _ (h : not p ≡ false) {q : Bool} (kept : q ≡ keepsSymbols (typeAt ws ss i) (typeAt wd ds k)) where
+      pub refuse-symbols : not q ≡ true → TypesSay b ss ds n out other ws i wd k (Refuse answer.Symbols)
+      refuse-symbols g = lost-symbols (formOf b) n (sourceOf b out other) (backgroundOf b out other) S D (granted _ _ path h) (denied _ _ kept g)
 
-      pub types-say : (r : Checks) → RecordsSay b ss ds n out other ws i wd k r → TypesSay b ss ds n out other ws i wd k r
-      types-say (Refuse a) g = records-left ∙ g
-      types-say (Pass i′ k′) g = (g .0, g .1, records-left ∙ g .2, g .3)
+      -- behind the path and the symbols, the checks of the records are left
+      module _ (g : not q ≡ false) where
+        records-left : typesChecked b n out other (typeAt ws ss i) (typeAt wd ds k) ≡ recordsChecked b n out other (typeAt ws ss i) (typeAt wd ds k)
+        records-left = behind-types (formOf b) n (sourceOf b out other) (backgroundOf b out other) S D (granted _ _ path h) (granted _ _ kept g)
+
+        pub types-say : (r : Checks) → RecordsSay b ss ds n out other ws i wd k r → TypesSay b ss ds n out other ws i wd k r
+        types-say (Refuse a) f = records-left ∙ f
+        types-say (Pass i′ k′) f = (f .0, f .1, records-left ∙ f .2, f .3)
 
 -- ---- sheets
 

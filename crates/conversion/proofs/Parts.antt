@@ -16,6 +16,7 @@ use Rattle.answer.specs.declared.Answer.the-variants as answer
 use Rattle.datatype.specs.Datatype.{Datatype, size}
 use Rattle.datatype.specs.Symbols.{onSome}
 use Rattle.datatype.specs.Paths.{hasPath}
+use Rattle.datatype.specs.SymbolSets.{keepsSymbols}
 use Rattle.datatype.specs.WellFormed.{WellFormed}
 use Rattle.datatype.proofs.Matches.{size-most}
 use Rattle.sheet.specs.Sheet.{sheetOf}
@@ -93,8 +94,11 @@ module _ (form : Form) (n x y : ℕ) (S D : Datatype) where
   pub no-path : hasPath S D ≡ false → typeChecks form n x y S D ≡ refused answer.Path
   no-path e = rw e refl
 
-  pub behind-path : hasPath S D ≡ true → typeChecks form n x y S D ≡ recordChecks form n x y S D
-  behind-path e = rw e refl
+  pub lost-symbols : hasPath S D ≡ true → keepsSymbols S D ≡ false → typeChecks form n x y S D ≡ refused answer.Symbols
+  lost-symbols e h = rw (e, h) refl
+
+  pub behind-types : hasPath S D ≡ true → keepsSymbols S D ≡ true → typeChecks form n x y S D ≡ recordChecks form n x y S D
+  behind-types e h = rw (e, h) refl
 
   pub many : 65536 < n → recordChecks form n x y S D ≡ refused answer.Count
   many h = rw (lt-leb n 65536 h) refl

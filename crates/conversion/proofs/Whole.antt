@@ -14,6 +14,7 @@ use Rattle.answer.specs.declared.Answer.the-variants as answer
 use Rattle.answer.specs.Answer.{numberOf}
 use Rattle.datatype.specs.Datatype.{Datatype, size}
 use Rattle.datatype.specs.Paths.{hasPath}
+use Rattle.datatype.specs.SymbolSets.{keepsSymbols}
 use Rattle.sheet.specs.Sheet.{Sheet, sheetOf}
 use Rattle.sheet.specs.Sheet.Sheet.{ofType, faultyAt}
 use Rattle.records.specs.Records.{readings}
@@ -47,13 +48,15 @@ module _ (t : List ℕ) where
       (handled-number S D h n (readings S D source))
 
   typed-clears : (form : Form) (h n : ℕ) (source : List ℕ) (x y : ℕ) (S D : Datatype) → tableAfter (answered h n source (typeChecks form n x y S D)) t ≡ cleared t
-  typed-clears form h n source x y S D = go (hasPath S D) (leb n 65536) (hasRoom form n (size S) (size D) x y)
+  typed-clears form h n source x y S D = go (hasPath S D) (keepsSymbols S D) (leb n 65536) (hasRoom form n (size S) (size D) x y)
     where
-      go : (a b c : Bool) → tableAfter (answered h n source (require a answer.Path (require b answer.Count (require c answer.Room (passed S D))))) t ≡ cleared t
-      go false b c = refl
-      go true false c = refl
-      go true true false = refl
-      go true true true = handled-clears h S D n source
+      go : (a k b c : Bool)
+          → tableAfter (answered h n source (require a answer.Path (require k answer.Symbols (require b answer.Count (require c answer.Room (passed S D)))))) t ≡ cleared t
+      go false k b c = refl
+      go true false b c = refl
+      go true true false c = refl
+      go true true true false = refl
+      go true true true true = handled-clears h S D n source
 
   pub sheets-clear : (form : Form) (h n : ℕ) (source ss ds : List ℕ) (x y : ℕ) → tableAfter (answered h n source (sheetChecks form ss ds n x y)) t ≡ cleared t
   sheets-clear form h n source ss ds x y = go (sheetOf ss) (sheetOf ds)

@@ -56,7 +56,7 @@ abbrev pub HasRecords : Bool → ℕ → ℕ → ℕ → ℕ → ℕ → Type 0
 HasRecords false n s d out other = (n ≤ 65536) × (n * s ≤ other) × (n * d ≤ out)
 HasRecords true n s d out other = (n ≤ 65536) × (n * s ≤ out) × (n * d ≤ out) × (n * d ≤ other)
 
--- ---- checks 3 to 7, of two sheets, a count and the lengths of the buffers
+-- ---- checks 3 to 7 and 12, of two sheets, a count and the lengths of the buffers
 
 abbrev pub sheetsChecked : Bool → List ℕ → List ℕ → ℕ → ℕ → ℕ → Checked
 sheetsChecked replaces ss ds n out other = sheetChecks (formOf replaces) ss ds n (sourceOf replaces out other) (backgroundOf replaces out other)

@@ -1,7 +1,7 @@
 // What the parts of a converting call hand on, and what they promise: definitions in specs/, laws in proofs/, no code.
 use answer::Answer;
 
-// What checks 3 to 7 say: a refusal, or the numbers of the two sheets' types in the table.
+// What checks 3 to 7 and 12 say: a refusal, or the numbers of the two sheets' types in the table.
 pub enum Checks {
     Refuse(Answer),
     Pass(usize, usize),

@@ -2,3 +2,4 @@ pub mod Tests
 pub mod Ways
 pub mod Matches
 pub mod HasPath
+pub mod SymbolSets

@@ -106,7 +106,7 @@ way-path (element {es = es} {ds = ds} {S = S} {T = T} k q h t) e = way-path t (a
 
 -- ---- the laws
 
-elements-some : (ds : List ℕ) → EachSome ds → 1 ≤ elements ds
+pub elements-some : (ds : List ℕ) → EachSome ds → 1 ≤ elements ds
 elements-some [] h = omega arith
 elements-some (d ∷ ds) h = mul-le-mul (h .0) (elements-some ds (h .1))
 

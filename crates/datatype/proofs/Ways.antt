@@ -162,7 +162,7 @@ further-back p (matched c u v) {a} {x} {y} e =
 placed : {S D : Datatype} {a b c d : ℕ} {x y : Leaf} → a ≡ c → b ≡ d → Way S D a b x y → Way S D c d x y
 placed {S} {D} {x = x} {y = y} e f t = subst₂ (λ (i j : ℕ). Way S D i j x y) e f t
 
-later : {ss ms : Members} {z w a b : ℕ} {x y : Leaf} (n : List ℕ) (o : ℕ) (T : Datatype) → memberNamed n ms ≡ missing
+pub later : {ss ms : Members} {z w a b : ℕ} {x y : Leaf} (n : List ℕ) (o : ℕ) (T : Datatype) → memberNamed n ms ≡ missing
     → Way (compound z ss) (compound w ms) a b x y → Way (compound z ss) (compound w (member n o T ms)) a b x y
 later {ms = ms} n o T once (inside {o = q} {T = X} k e f t) = inside k e (found-later k n o q T X ms once f) t
 

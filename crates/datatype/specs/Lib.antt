@@ -5,3 +5,4 @@ pub mod Paths
 pub mod Matches
 pub mod WellFormed
 pub mod HasPath
+pub mod SymbolSets

@@ -2,26 +2,23 @@
 ghost use mathlib.Core.Path.{_≡_};
 ghost use mathlib.Core.List.{List};
 ghost use Prim.Native.Nat.{ℕ};
-ghost use Rattle.datatype.specs.Paths.{hasPath};
+ghost use Rattle.datatype.specs.Paths.{hasPath, pathsTo};
 ghost use Rattle.datatype.specs.WellFormed.{WellFormed};
 ghost use Rattle.table.specs.Table.{decode, typeAt};
-ghost use Rattle.paths.specs.Steps.{intAndReal, Turns, Inside};
+ghost use Rattle.paths.specs.Steps.{intAndReal, Turns};
 use paths::Inner;
 use paths::Turn;
 use paths::dimensions::same_dimensions;
+use paths::types::inner_types;
 use paths::types::kind_at;
-use paths::types::row_of_name;
 use table::ARRAY;
 use table::BASE;
 use table::COMPOUND;
 use table::FIRST;
-use table::Found;
 use table::INT;
-use table::MEMBER_TYPE;
 use table::MOST_TYPES;
 use table::REAL;
 use table::ROWS;
-use table::read::row_word;
 use table::read::type_word;
 
 // Of two kinds, one is int and the other real.
@@ -43,7 +40,7 @@ fn path_turn(
     destination_half: &[u32],
     destination_type: usize,
 ) -> Turn
-    ensures { λ r. ⌜ ((ts td : List ℕ) → Turns (now («source_half» .entry)) ts «source_type» (now («destination_half» .entry)) td «destination_type» r) ⌝ }
+    ensures { λ r. ⌜ ((ts td : List ℕ) → Turns hasPath pathsTo (now («source_half» .entry)) ts «source_type» (now («destination_half» .entry)) td «destination_type» r) ⌝ }
 {
     let from = kind_at(source_half, source_type);
     let to = kind_at(destination_half, destination_type);
@@ -63,33 +60,6 @@ fn path_turn(
         type_word(source_half, source_type, BASE),
         type_word(destination_half, destination_type, BASE),
     )
-}
-
-// The types of the destination's member in the row and of the member of its name in the source compound.
-fn path_inner(
-    source_half: &[u32],
-    source_sheet: &[u8],
-    source_type: usize,
-    destination_half: &[u32],
-    destination_sheet: &[u8],
-    row: usize,
-) -> Inner
-    ensures { λ r. ⌜ Inside (now («source_half» .entry)) (now («source_sheet» .entry)) «source_type» (now («destination_half» .entry)) (now («destination_sheet» .entry)) row r ⌝ }
-{
-    match row_of_name(
-        source_half,
-        source_sheet,
-        source_type,
-        destination_half,
-        destination_sheet,
-        row,
-    ) {
-        Found::At(m) => Inner::Both(
-            row_word(source_half, m, MEMBER_TYPE),
-            row_word(destination_half, row, MEMBER_TYPE),
-        ),
-        Found::Missing => Inner::Neither,
-    }
 }
 
 // Whether there is a path from the source type to the destination type, both to this depth.
@@ -124,7 +94,7 @@ fn path_to(
             let mut left = type_word(destination_half, destination_type, ROWS);
             while 0 < left {
                 left -= 1;
-                match path_inner(
+                match inner_types(
                     source_half,
                     source_sheet,
                     source_type,

@@ -44,17 +44,17 @@ kind-high c h =
       ne-eqb c 1 (λ e. omega arith),
     )
 
-kind-is : (c k : ℕ) → 3 ≤ k → kindOf c ≡ k → c ≡ k
+pub kind-is : (c k : ℕ) → 2 ≤ k → kindOf c ≡ k → c ≡ k
 unfolding kindOf
-kind-is c k h = go (eqb c 4) (eqb c 3) (eqb c 2) (eqb c 5) (eqb c 1) refl refl refl
+kind-is c k h = go (eqb c 4) (eqb c 3) (eqb c 2) (eqb c 5) (eqb c 1) refl refl refl refl
   where
-    go : (x y u r v : Bool) → eqb c 4 ≡ x → eqb c 3 ≡ y → eqb c 5 ≡ r → cond x 4 (cond y 3 (cond u 2 (cond r 5 (cond v 1 0)))) ≡ k → c ≡ k
-    go true y u r v p q o e = eqb-true c 4 p ∙ e
-    go false true u r v p q o e = eqb-true c 3 q ∙ e
-    go false false true r v p q o e = absurd (omega arith)
-    go false false false true v p q o e = eqb-true c 5 o ∙ e
-    go false false false false true p q o e = absurd (omega arith)
-    go false false false false false p q o e = absurd (omega arith)
+    go : (x y u r v : Bool) → eqb c 4 ≡ x → eqb c 3 ≡ y → eqb c 2 ≡ u → eqb c 5 ≡ r → cond x 4 (cond y 3 (cond u 2 (cond r 5 (cond v 1 0)))) ≡ k → c ≡ k
+    go true y u r v p q m o e = eqb-true c 4 p ∙ e
+    go false true u r v p q m o e = eqb-true c 3 q ∙ e
+    go false false true r v p q m o e = eqb-true c 2 m ∙ e
+    go false false false true v p q m o e = eqb-true c 5 o ∙ e
+    go false false false false true p q m o e = absurd (omega arith)
+    go false false false false false p q m o e = absurd (omega arith)
 
 abbrev pub leafKind : Leaf → ℕ
 leafKind (atomic l) = classCode (l .class)

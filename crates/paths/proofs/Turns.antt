@@ -1,4 +1,4 @@
--- How the question for a path follows from the words of two types, level by level. Assumes nothing.
+-- How a question of two types, as the one for a path, follows from their words, level by level. Assumes nothing.
 use mathlib.Core.Path.{_≡_, refl, sym, ap, ap₂, _∙_}
 use mathlib.Core.Bool.{Bool, true, false, not, _&&_}
 use mathlib.Core.List.{List}
@@ -13,7 +13,8 @@ use Rattle.layout.proofs.Edits.{fails, holds}
 use Rattle.datatype.specs.Datatype.{Leaf, Datatype, Members, same as sameDimensions}
 use Rattle.datatype.specs.Datatype.Leaf.{atomic, enumeration, real}
 use Rattle.datatype.specs.Datatype.Datatype.{leaf, compound, array}
-use Rattle.datatype.specs.Paths.{sameClass, leafPath, Lookup, onFound, hasPath, pathsTo}
+use Rattle.datatype.specs.Datatype.Members.{empty, member}
+use Rattle.datatype.specs.Paths.{sameClass, leafPath, Lookup, onFound, memberNamed, hasPath, pathsTo}
 use Rattle.datatype.specs.WellFormed.{WellFormed, WellFormedIn}
 use Rattle.table.specs.declared.Found.{Found}
 use Rattle.table.specs.declared.Found.the-variants.{At, Missing}
@@ -26,7 +27,7 @@ use Rattle.paths.specs.declared.Turn.{Turn}
 use Rattle.paths.specs.declared.Turn.the-variants.{Answer, Bases, Lists}
 use Rattle.paths.specs.declared.Inner.{Inner}
 use Rattle.paths.specs.declared.Inner.the-variants.{Both, Neither}
-use Rattle.paths.specs.Steps.{Whole, kindAt, membersOfType, intAndReal, Turned, Turns, pathNamed, innerAfter, Entered, Inside}
+use Rattle.paths.specs.Steps.{Whole, kindAt, membersOfType, intAndReal, Turned, Turns, askNamed, innerAfter, Entered, Inside}
 use Rattle.paths.proofs.Shapes.{leafKind, treeKind, tree-kind, compound-node, array-node, decode-step, whole, formed-compound, formed-array}
 use Rattle.paths.proofs.Rows.{named-formed, row-formed}
 
@@ -123,10 +124,51 @@ path-leaves (array y es S) (leaf x) e h k = absurd (k e)
 path-leaves S (compound z ms) e h k = absurd (h refl)
 path-leaves S (array z ds T) e h k = absurd (k refl)
 
+-- ---- questions that go by the parts of types
+
+-- from compound to compound by the members of one name, from array to array of the same dimensions by the elements
+pub record ByParts (ask : Datatype → Datatype → Bool) (asks : Members → Members → Bool) : Type 0 where
+  pub none : (ss : Members) → asks ss empty ≡ true
+  pub more : (ss : Members) (x : List ℕ) (offset : ℕ) (T : Datatype) (ms : Members)
+      → asks ss (member x offset T ms) ≡ onFound (λ o S. ask S T) true (memberNamed x ss) && asks ss ms
+  pub compounds : (z y : ℕ) (ss ds : Members) → ask (compound z ss) (compound y ds) ≡ asks ss ds
+  pub arrays : (z y : ℕ) (es ds : List ℕ) (S T : Datatype) → sameDimensions es ds ≡ true → ask (array z es S) (array y ds T) ≡ ask S T
+
+pub path-parts : ByParts hasPath pathsTo
+unfolding hasPath
+path-parts =
+    record {
+      none = λ ss. refl;
+      more = λ ss x offset T ms. refl;
+      compounds = λ z y ss ds. refl;
+      arrays = λ z y es ds S T e. rw e refl;
+    }
+
 -- ---- one turn
 
+module _ {ask : Datatype → Datatype → Bool} {asks : Members → Members → Bool} (parts : ByParts ask asks) (ws : List ℕ) (s : ℕ) (wd : List ℕ) (d : ℕ) {from to : ℕ}
+    (hs : from ≡ kindAt ws s) (hd : to ≡ kindAt wd d) (same : to ≡ from) where
+  pub turn-lists : to ≡ 3 → (ts td : List ℕ) → Turns ask asks ws ts s wd td d Lists
+  turn-lists h ts td S D fs fd =
+      let ks : kindAt ws s ≡ 3 = sym hs ∙ sym same ∙ h in
+      let kd : kindAt wd d ≡ 3 = sym hd ∙ h in
+      record {
+        is = rw (compound-node S ws ts s ks, compound-node D wd td d kd) (parts .compounds _ _ _ _);
+        onward = (formed-compound S ws ts s fs ks .1, formed-compound D wd td d fd kd .1);
+      }
+
+  pub turn-bases : to ≡ 4 → {r : Bool} → r ≡ sameDimensions (dimensionsAt ws s) (dimensionsAt wd d) → {k l : ℕ} → not r ≡ false
+      → Reads (baseWord ws s) k → Reads (baseWord wd d) l → (ts td : List ℕ) → Turns ask asks ws ts s wd td d (Bases k l)
+  turn-bases h {r} alike e hk hl ts td S D fs fd =
+      let ks : kindAt ws s ≡ 4 = sym hs ∙ sym same ∙ h in
+      let kd : kindAt wd d ≡ 4 = sym hd ∙ h in
+      record {
+        is = rw (array-node S ws ts s ks, array-node D wd td d kd, hk .is, hl .is) (parts .arrays _ _ _ _ _ _ (sym alike ∙ holds {t = r} refl e));
+        onward = (rw (hk .is) (formed-array S ws ts s fs ks .1), rw (hl .is) (formed-array D wd td d fd kd .1));
+      }
+
 module _ (ws : List ℕ) (s : ℕ) (wd : List ℕ) (d : ℕ) {from to : ℕ} (hs : from ≡ kindAt ws s) (hd : to ≡ kindAt wd d) where
-  pub turn-differ : {a : Bool} → (to ≡ from → ⊥) → a ≡ intAndReal from to → (ts td : List ℕ) → Turns ws ts s wd td d (Answer a)
+  pub turn-differ : {a : Bool} → (to ≡ from → ⊥) → a ≡ intAndReal from to → (ts td : List ℕ) → Turns hasPath pathsTo ws ts s wd td d (Answer a)
   turn-differ h e ts td S D fs fd =
       record {
         is =
@@ -137,17 +179,7 @@ module _ (ws : List ℕ) (s : ℕ) (wd : List ℕ) (d : ℕ) {from to : ℕ} (hs
       }
 
   module _ (same : to ≡ from) where
-    pub turn-lists : to ≡ 3 → (ts td : List ℕ) → Turns ws ts s wd td d Lists
-    unfolding hasPath
-    turn-lists h ts td S D fs fd =
-        let ks : kindAt ws s ≡ 3 = sym hs ∙ sym same ∙ h in
-        let kd : kindAt wd d ≡ 3 = sym hd ∙ h in
-        record {
-          is = rw (compound-node S ws ts s ks, compound-node D wd td d kd) refl;
-          onward = (formed-compound S ws ts s fs ks .1, formed-compound D wd td d fd kd .1);
-        }
-
-    pub turn-leaves : (to ≡ 3 → ⊥) → (to ≡ 4 → ⊥) → (ts td : List ℕ) → Turns ws ts s wd td d (Answer true)
+    pub turn-leaves : (to ≡ 3 → ⊥) → (to ≡ 4 → ⊥) → (ts td : List ℕ) → Turns hasPath pathsTo ws ts s wd td d (Answer true)
     turn-leaves h k ts td S D fs fd =
         record {
           is =
@@ -156,49 +188,37 @@ module _ (ws : List ℕ) (s : ℕ) (wd : List ℕ) (d : ℕ) {from to : ℕ} (hs
           onward = tt;
         }
 
-    module _ (h : to ≡ 4) {r : Bool} (alike : r ≡ sameDimensions (dimensionsAt ws s) (dimensionsAt wd d)) where
-      arrays : (ts td : List ℕ) (S D : ℕ → Datatype) → Whole S ws ts s → Whole D wd td d
-          → hasPath (node S ws ts s) (node D wd td d) ≡ r && hasPath (S (baseWord ws s)) (D (baseWord wd d))
-      unfolding hasPath
-      arrays ts td S D fs fd =
-          let ks : kindAt ws s ≡ 4 = sym hs ∙ sym same ∙ h in
-          let kd : kindAt wd d ≡ 4 = sym hd ∙ h in
-          rw (array-node S ws ts s ks, array-node D wd td d kd, alike) refl
+    pub turn-others : to ≡ 4 → {r : Bool} → r ≡ sameDimensions (dimensionsAt ws s) (dimensionsAt wd d) → not r ≡ true
+        → (ts td : List ℕ) → Turns hasPath pathsTo ws ts s wd td d (Answer false)
+    unfolding hasPath
+    turn-others h {r} alike e ts td S D fs fd =
+        let ks : kindAt ws s ≡ 4 = sym hs ∙ sym same ∙ h in
+        let kd : kindAt wd d ≡ 4 = sym hd ∙ h in
+        record { is = rw (array-node S ws ts s ks, array-node D wd td d kd, ← alike, fails {t = r} refl e) refl; onward = tt }
 
-      pub turn-others : not r ≡ true → (ts td : List ℕ) → Turns ws ts s wd td d (Answer false)
-      turn-others e ts td S D fs fd = record { is = arrays ts td S D fs fd ∙ rw (fails {t = r} refl e) refl; onward = tt }
-
-      pub turn-bases : {k l : ℕ} → not r ≡ false → Reads (baseWord ws s) k → Reads (baseWord wd d) l → (ts td : List ℕ) → Turns ws ts s wd td d (Bases k l)
-      turn-bases e hk hl ts td S D fs fd =
-          record {
-            is = arrays ts td S D fs fd ∙ rw (holds {t = r} refl e, hk .is, hl .is) refl;
-            onward = (
-              rw (hk .is) (formed-array S ws ts s fs (sym hs ∙ sym same ∙ h) .1),
-              rw (hl .is) (formed-array D wd td d fd (sym hd ∙ h) .1),
-            );
-          }
-
-pub ruleset turn-laws = (needs, turn-differ, turn-lists, turn-leaves, turn-others, turn-bases)
+pub ruleset turn-laws = (needs, path-parts, turn-differ, turn-lists, turn-leaves, turn-others, turn-bases)
 
 -- ---- into a member
 
 module _ (ws ts : List ℕ) (s : ℕ) (wd td : List ℕ) (j : ℕ) {r : Found} (hr : r ≡ rowNamed ws ts (nameAt wd td j) (firstWord ws s) (rowsWord ws s)) where
-  abbrev inFound : (ℕ → Datatype) → Lookup → Bool
-  inFound D = onFound (λ o T. hasPath T (D (memberTypeWord wd j))) true
+  abbrev inFound : (Datatype → Datatype → Bool) → (ℕ → Datatype) → Lookup → Bool
+  inFound ask D = onFound (λ o T. ask T (D (memberTypeWord wd j))) true
 
-  named-is : (S D : ℕ → Datatype) {v : Found} → r ≡ v → pathNamed D (membersOfType S ws ts s) wd td j ≡ inFound D (memberFound S ws v)
-  named-is S D e =
-      ap (inFound D) (member-named ws ts (nameAt wd td j) (firstWord ws s) S (rowsWord ws s) ∙ ap (memberFound S ws) (sym hr ∙ e))
+  named-is : (ask : Datatype → Datatype → Bool) (S D : ℕ → Datatype) {v : Found} → r ≡ v
+      → askNamed ask D (membersOfType S ws ts s) wd td j ≡ inFound ask D (memberFound S ws v)
+  named-is ask S D e =
+      ap (inFound ask D) (member-named ws ts (nameAt wd td j) (firstWord ws s) S (rowsWord ws s) ∙ ap (memberFound S ws) (sym hr ∙ e))
 
-  pub inner-neither : r ≡ Missing → Inside ws ts s wd td j Neither
-  inner-neither e S D z fs fd = record { is = named-is S D e; onward = tt }
+  pub inner-neither : r ≡ Missing → (ask : Datatype → Datatype → Bool) → Inside ask ws ts s wd td j Neither
+  inner-neither e ask f z fs fd = record { is = named-is ask (decode f ws ts) (decode f wd td) e; onward = tt }
 
-  pub inner-both : {m k l : ℕ} → r ≡ At m → Reads (memberTypeWord ws m) k → Reads (memberTypeWord wd j) l → Inside ws ts s wd td j (Both k l)
-  inner-both e hk hl S D z fs fd =
+  pub inner-both : {m k l : ℕ} → r ≡ At m → Reads (memberTypeWord ws m) k → Reads (memberTypeWord wd j) l → (ask : Datatype → Datatype → Bool)
+      → Inside ask ws ts s wd td j (Both k l)
+  inner-both e hk hl ask f z fs fd =
       record {
-        is = named-is S D e ∙ rw (hk .is, hl .is) refl;
+        is = named-is ask (decode f ws ts) (decode f wd td) e ∙ rw (hk .is, hl .is) refl;
         onward = (
-          rw (hk .is) (named-formed S ws ts z (firstWord ws s) (nameAt wd td j) (rowsWord ws s) fs (sym hr ∙ e) .1),
+          rw (hk .is) (named-formed (decode f ws ts) ws ts z (firstWord ws s) (nameAt wd td j) (rowsWord ws s) fs (sym hr ∙ e) .1),
           rw (hl .is) fd,
         );
       }
@@ -207,44 +227,45 @@ pub ruleset inner-laws = (needs, inner-neither, inner-both)
 
 -- ---- one level after the other
 
-pub path-deep : (f : ℕ) (ws ts : List ℕ) (s : ℕ) (wd td : List ℕ) (d : ℕ) → f ≡ 0 → hasPath (decode f ws ts s) (decode f wd td d) ≡ true
-unfolding decode hasPath
-path-deep f ws ts s wd td d e = rw e refl
+module _ {ask : Datatype → Datatype → Bool} {asks : Members → Members → Bool} (parts : ByParts ask asks) where
+  pub ask-deep : (f : ℕ) (ws ts : List ℕ) (s : ℕ) (wd td : List ℕ) (d : ℕ) → f ≡ 0 → ask (decode f ws ts s) (decode f wd td d) ≡ true
+  unfolding decode
+  ask-deep f ws ts s wd td d e = rw e (parts .compounds _ _ _ _ ∙ parts .none _)
 
-module _ (f : ℕ) (ws ts : List ℕ) (s : ℕ) (wd td : List ℕ) (d : ℕ) {r : Turn} (nonzero : f ≡ 0 → ⊥)
-    (formed : WellFormed (decode f ws ts s) × WellFormed (decode f wd td d)) (turn : (ts td : List ℕ) → Turns ws ts s wd td d r) where
+module _ {ask : Datatype → Datatype → Bool} {asks : Members → Members → Bool} (f : ℕ) (ws ts : List ℕ) (s : ℕ) (wd td : List ℕ) (d : ℕ) {r : Turn} (nonzero : f ≡ 0 → ⊥)
+    (formed : WellFormed (decode f ws ts s) × WellFormed (decode f wd td d)) (turn : Turns ask asks ws ts s wd td d r) where
   pub turned : {v : Turn} → r ≡ v
-      → Turned (decode (f - 1) ws ts) (decode (f - 1) wd td) (sizeWord ws s) (membersOfType (decode (f - 1) ws ts) ws ts s) (sizeWord wd d)
-      (membersOfType (decode (f - 1) wd td) wd td d) (hasPath (decode f ws ts s) (decode f wd td d)) v
+      → Turned ask asks (decode (f - 1) ws ts) (decode (f - 1) wd td) (sizeWord ws s) (membersOfType (decode (f - 1) ws ts) ws ts s) (sizeWord wd d)
+      (membersOfType (decode (f - 1) wd td) wd td d) (ask (decode f ws ts s) (decode f wd td d)) v
   turned e =
       let h : 0 < f = pos-of-ne-zero nonzero in
       rw (decode-step f ws ts s h, decode-step f wd td d h, ← e)
-      (turn ts td (decode (f - 1) ws ts) (decode (f - 1) wd td) (whole f ws ts s h (formed .0)) (whole f wd td d h (formed .1)))
+      (turn (decode (f - 1) ws ts) (decode (f - 1) wd td) (whole f ws ts s h (formed .0)) (whole f wd td d h (formed .1)))
 
-module _ (ss : Members) (wd td : List ℕ) (D : ℕ → Datatype) (first : ℕ) where
-  pub lists-none : (n : ℕ) → n ≤ 0 → pathsTo ss (membersAt D wd td first n) ≡ true
-  unfolding membersAt hasPath
-  lists-none zero h = refl
+module _ {ask : Datatype → Datatype → Bool} {asks : Members → Members → Bool} (parts : ByParts ask asks) (ss : Members) (wd td : List ℕ) (D : ℕ → Datatype) (first : ℕ) where
+  pub lists-none : (n : ℕ) → n ≤ 0 → asks ss (membersAt D wd td first n) ≡ true
+  unfolding membersAt
+  lists-none zero h = parts .none ss
   lists-none (suc n) h = absurd (not-suc-le-zero h)
 
   lists-more : (n : ℕ) → 0 < n
-      → pathsTo ss (membersAt D wd td first n) ≡ pathNamed D ss wd td (first + (n - 1)) && pathsTo ss (membersAt D wd td first (n - 1))
-  unfolding membersAt hasPath
+      → asks ss (membersAt D wd td first n) ≡ askNamed ask D ss wd td (first + (n - 1)) && asks ss (membersAt D wd td first (n - 1))
+  unfolding membersAt
   lists-more zero h = absurd (not-suc-le-zero h)
-  lists-more (suc n) h = rw sub-one refl
+  lists-more (suc n) h = rw sub-one (parts .more ss _ _ _ _)
 
 -- the members of the destination compound d that are left to look at: n rows from first on
-pub record Remains (f : ℕ) (ws ts : List ℕ) (s : ℕ) (wd td : List ℕ) (d first n : ℕ) : Type 0 where
-  pub is : hasPath (decode f ws ts s) (decode f wd td d)
-      ≡ pathsTo (membersOfType (decode (f - 1) ws ts) ws ts s) (membersAt (decode (f - 1) wd td) wd td first n)
+pub record Remains (ask : Datatype → Datatype → Bool) (asks : Members → Members → Bool) (f : ℕ) (ws ts : List ℕ) (s : ℕ) (wd td : List ℕ) (d first n : ℕ) : Type 0 where
+  pub is : ask (decode f ws ts s) (decode f wd td d)
+      ≡ asks (membersOfType (decode (f - 1) ws ts) ws ts s) (membersAt (decode (f - 1) wd td) wd td first n)
   pub source : WellFormedIn (sizeWord ws s) (membersOfType (decode (f - 1) ws ts) ws ts s)
   pub destination : WellFormedIn (sizeWord wd d) (membersAt (decode (f - 1) wd td) wd td first n)
 
-module _ (f : ℕ) (ws ts : List ℕ) (s : ℕ) (wd td : List ℕ) (d : ℕ) where
+module _ {ask : Datatype → Datatype → Bool} {asks : Members → Members → Bool} (parts : ByParts ask asks) (f : ℕ) (ws ts : List ℕ) (s : ℕ) (wd td : List ℕ) (d : ℕ) where
   pub lists-start : {first n : ℕ}
-      → Turned (decode (f - 1) ws ts) (decode (f - 1) wd td) (sizeWord ws s) (membersOfType (decode (f - 1) ws ts) ws ts s) (sizeWord wd d)
-      (membersOfType (decode (f - 1) wd td) wd td d) (hasPath (decode f ws ts s) (decode f wd td d)) Lists
-      → Reads (firstWord wd d) first → Reads (rowsWord wd d) n → Remains f ws ts s wd td d first n
+      → Turned ask asks (decode (f - 1) ws ts) (decode (f - 1) wd td) (sizeWord ws s) (membersOfType (decode (f - 1) ws ts) ws ts s) (sizeWord wd d)
+      (membersOfType (decode (f - 1) wd td) wd td d) (ask (decode f ws ts s) (decode f wd td d)) Lists
+      → Reads (firstWord wd d) first → Reads (rowsWord wd d) n → Remains ask asks f ws ts s wd td d first n
   lists-start turned hf hn =
       record {
         is = rw (hf .is, hn .is) (turned .is);
@@ -252,28 +273,29 @@ module _ (f : ℕ) (ws ts : List ℕ) (s : ℕ) (wd td : List ℕ) (d : ℕ) whe
         destination = rw (hf .is, hn .is) (turned .onward .1);
       }
 
-  module _ (first n : ℕ) {r : Inner} (rest : Remains f ws ts s wd td d first n) (h : 0 < n) (inner : Inside ws ts s wd td (first + (n - 1)) r) where
+  module _ (first n : ℕ) {r : Inner} (rest : Remains ask asks f ws ts s wd td d first n) (h : 0 < n) (inner : Inside ask ws ts s wd td (first + (n - 1)) r) where
     entered : {v : Inner} → r ≡ v
-        → Entered (decode (f - 1) ws ts) (decode (f - 1) wd td) (pathNamed (decode (f - 1) wd td) (membersOfType (decode (f - 1) ws ts) ws ts s) wd td (first + (n - 1))) v
+        → Entered ask (decode (f - 1) ws ts) (decode (f - 1) wd td)
+        (askNamed ask (decode (f - 1) wd td) (membersOfType (decode (f - 1) ws ts) ws ts s) wd td (first + (n - 1))) v
     entered e =
         rw (← e)
-        (inner (decode (f - 1) ws ts) (decode (f - 1) wd td) (sizeWord ws s) (rest .source)
+        (inner (f - 1) (sizeWord ws s) (rest .source)
         (row-formed (decode (f - 1) wd td) wd td (sizeWord wd d) first n h (rest .destination) .0))
 
     pub both-formed : {k l : ℕ} → r ≡ Both k l → WellFormed (decode (f - 1) ws ts k) × WellFormed (decode (f - 1) wd td l)
     both-formed e = entered e .onward
 
-    module _ {v : Inner} {a : Bool} (e : r ≡ v) (answer : a ≡ innerAfter (decode (f - 1) ws ts) (decode (f - 1) wd td) v) where
-      lists-next : hasPath (decode f ws ts s) (decode f wd td d)
-          ≡ a && pathsTo (membersOfType (decode (f - 1) ws ts) ws ts s) (membersAt (decode (f - 1) wd td) wd td first (n - 1))
+    module _ {v : Inner} {a : Bool} (e : r ≡ v) (answer : a ≡ innerAfter ask (decode (f - 1) ws ts) (decode (f - 1) wd td) v) where
+      lists-next : ask (decode f ws ts s) (decode f wd td d)
+          ≡ a && asks (membersOfType (decode (f - 1) ws ts) ws ts s) (membersAt (decode (f - 1) wd td) wd td first (n - 1))
       lists-next =
-          rest .is ∙ lists-more (membersOfType (decode (f - 1) ws ts) ws ts s) wd td (decode (f - 1) wd td) first n h
+          rest .is ∙ lists-more parts (membersOfType (decode (f - 1) ws ts) ws ts s) wd td (decode (f - 1) wd td) first n h
           ∙ rw (entered e .is, ← answer) refl
 
-      pub lists-fail : a ≡ false → hasPath (decode f ws ts s) (decode f wd td d) ≡ false
+      pub lists-fail : a ≡ false → ask (decode f ws ts s) (decode f wd td d) ≡ false
       lists-fail z = lists-next ∙ rw z refl
 
-      pub lists-pass : a ≡ true → Remains f ws ts s wd td d first (n - 1)
+      pub lists-pass : a ≡ true → Remains ask asks f ws ts s wd td d first (n - 1)
       lists-pass z =
           record {
             is = lists-next ∙ rw z refl;
@@ -281,5 +303,5 @@ module _ (f : ℕ) (ws ts : List ℕ) (s : ℕ) (wd td : List ℕ) (d : ℕ) whe
             destination = row-formed (decode (f - 1) wd td) wd td (sizeWord wd d) first n h (rest .destination) .1;
           }
 
-  pub lists-done : (first n : ℕ) → Remains f ws ts s wd td d first n → n ≤ 0 → hasPath (decode f ws ts s) (decode f wd td d) ≡ true
-  lists-done first n rest h = rest .is ∙ lists-none (membersOfType (decode (f - 1) ws ts) ws ts s) wd td (decode (f - 1) wd td) first n h
+  pub lists-done : (first n : ℕ) → Remains ask asks f ws ts s wd td d first n → n ≤ 0 → ask (decode f ws ts s) (decode f wd td d) ≡ true
+  lists-done first n rest h = rest .is ∙ lists-none parts (membersOfType (decode (f - 1) ws ts) ws ts s) wd td (decode (f - 1) wd td) first n h

@@ -8,13 +8,13 @@ use mathlib.Core.Option.{Option, none, some}
 use lib.Dec.{eqb}
 use Rattle.datatype.specs.Datatype.{Leaf, Datatype, Members, size}
 use Rattle.datatype.specs.Leaves.{within, leafAt}
-use Rattle.datatype.specs.Paths.{onFound, memberNamed, hasPath, pathsTo}
+use Rattle.datatype.specs.Paths.{onFound, memberNamed}
 use Rattle.datatype.specs.Matches.{Match, further, matchAt}
 use Rattle.datatype.specs.Matches.Match.{unmatched, matched}
 use Rattle.datatype.specs.WellFormed.{WellFormed, WellFormedIn}
 use Rattle.table.specs.declared.Found.{Found}
 use Rattle.table.specs.declared.Found.the-variants.{At, Missing}
-use Rattle.table.specs.Table.{classWord, sizeWord, firstWord, rowsWord, offsetWord, memberTypeWord, nameAt, membersAt, node}
+use Rattle.table.specs.Table.{classWord, sizeWord, firstWord, rowsWord, offsetWord, memberTypeWord, nameAt, membersAt, node, decode}
 use Rattle.paths.specs.declared.Step.{Step}
 use Rattle.paths.specs.declared.Step.the-variants.{Go, Here, Gone}
 use Rattle.paths.specs.declared.Walk.{Walk}
@@ -125,17 +125,17 @@ LeadsIn ws ts s wd td j b r =
     (S D : ℕ → Datatype) (x y : Leaf) → Whole S ws ts s → WellFormed (D (memberTypeWord wd j))
     → Led S D x y (matchNamed D (membersOfType S ws ts s) wd td j) wd (rowEnd wd j) b r
 
--- ---- paths
+-- ---- questions of two types
 
 -- of two kinds, one is int and the other real
 unfoldable pub intAndReal : ℕ → ℕ → Bool
 intAndReal from to = cond (eqb from 0) (eqb to 5) (cond (eqb from 5) (eqb to 0) false)
 
--- what a turn leads to; ss and ds are the members here
-abbrev pub pathAfter : (ℕ → Datatype) → (ℕ → Datatype) → Members → Members → Turn → Bool
-pathAfter S D ss ds (Answer a) = a
-pathAfter S D ss ds (Bases k l) = hasPath (S k) (D l)
-pathAfter S D ss ds Lists = pathsTo ss ds
+-- what a turn leads to, where `ask` is the question of two types and `asks` that of two lists of members; ss and ds are the members here
+abbrev pub turnAfter : (Datatype → Datatype → Bool) → (Members → Members → Bool) → (ℕ → Datatype) → (ℕ → Datatype) → Members → Members → Turn → Bool
+turnAfter ask asks S D ss ds (Answer a) = a
+turnAfter ask asks S D ss ds (Bases k l) = ask (S k) (D l)
+turnAfter ask asks S D ss ds Lists = asks ss ds
 
 abbrev pub Turnward : (ℕ → Datatype) → (ℕ → Datatype) → Type 0 → Turn → Type 0
 Turnward S D Formed (Answer a) = Unit {0}
@@ -143,32 +143,34 @@ Turnward S D Formed (Bases k l) = WellFormed (S k) × WellFormed (D l)
 Turnward S D Formed Lists = Formed
 
 -- the turn r leads to the answer a
-pub record Turned (S D : ℕ → Datatype) (z : ℕ) (ss : Members) (y : ℕ) (ds : Members) (a : Bool) (r : Turn) : Type 0 where
-  pub is : a ≡ pathAfter S D ss ds r
+pub record Turned (ask : Datatype → Datatype → Bool) (asks : Members → Members → Bool) (S D : ℕ → Datatype) (z : ℕ) (ss : Members) (y : ℕ) (ds : Members) (a : Bool)
+    (r : Turn) : Type 0 where
+  pub is : a ≡ turnAfter ask asks S D ss ds r
   pub onward : Turnward S D (WellFormedIn z ss × WellFormedIn y ds) r
 
-abbrev pub Turns : List ℕ → List ℕ → ℕ → List ℕ → List ℕ → ℕ → Turn → Type 0
-Turns ws ts s wd td d r =
+abbrev pub Turns : (Datatype → Datatype → Bool) → (Members → Members → Bool) → List ℕ → List ℕ → ℕ → List ℕ → List ℕ → ℕ → Turn → Type 0
+Turns ask asks ws ts s wd td d r =
     (S D : ℕ → Datatype) → Whole S ws ts s → Whole D wd td d
-    → Turned S D (sizeWord ws s) (membersOfType S ws ts s) (sizeWord wd d) (membersOfType D wd td d) (hasPath (node S ws ts s) (node D wd td d)) r
+    → Turned ask asks S D (sizeWord ws s) (membersOfType S ws ts s) (sizeWord wd d) (membersOfType D wd td d) (ask (node S ws ts s) (node D wd td d)) r
 
--- whether there is a path from the members ss to the destination's row j
-abbrev pub pathNamed : (ℕ → Datatype) → Members → List ℕ → List ℕ → ℕ → Bool
-pathNamed D ss wd td j = onFound (λ o T. hasPath T (D (memberTypeWord wd j))) true (memberNamed (nameAt wd td j) ss)
+-- the question of the destination's row j and of the member of its name among ss; without one the answer is yes
+abbrev pub askNamed : (Datatype → Datatype → Bool) → (ℕ → Datatype) → Members → List ℕ → List ℕ → ℕ → Bool
+askNamed ask D ss wd td j = onFound (λ o T. ask T (D (memberTypeWord wd j))) true (memberNamed (nameAt wd td j) ss)
 
-abbrev pub innerAfter : (ℕ → Datatype) → (ℕ → Datatype) → Inner → Bool
-innerAfter S D (Both k l) = hasPath (S k) (D l)
-innerAfter S D Neither = true
+abbrev pub innerAfter : (Datatype → Datatype → Bool) → (ℕ → Datatype) → (ℕ → Datatype) → Inner → Bool
+innerAfter ask S D (Both k l) = ask (S k) (D l)
+innerAfter ask S D Neither = true
 
 abbrev pub Inward : (ℕ → Datatype) → (ℕ → Datatype) → Inner → Type 0
 Inward S D (Both k l) = WellFormed (S k) × WellFormed (D l)
 Inward S D Neither = Unit {0}
 
-pub record Entered (S D : ℕ → Datatype) (a : Bool) (r : Inner) : Type 0 where
-  pub is : a ≡ innerAfter S D r
+pub record Entered (ask : Datatype → Datatype → Bool) (S D : ℕ → Datatype) (a : Bool) (r : Inner) : Type 0 where
+  pub is : a ≡ innerAfter ask S D r
   pub onward : Inward S D r
 
-abbrev pub Inside : List ℕ → List ℕ → ℕ → List ℕ → List ℕ → ℕ → Inner → Type 0
-Inside ws ts s wd td j r =
-    (S D : ℕ → Datatype) (z : ℕ) → WellFormedIn z (membersOfType S ws ts s) → WellFormed (D (memberTypeWord wd j))
-    → Entered S D (pathNamed D (membersOfType S ws ts s) wd td j) r
+-- the types that r says, to any depth f
+abbrev pub Inside : (Datatype → Datatype → Bool) → List ℕ → List ℕ → ℕ → List ℕ → List ℕ → ℕ → Inner → Type 0
+Inside ask ws ts s wd td j r =
+    (f z : ℕ) → WellFormedIn z (membersOfType (decode f ws ts) ws ts s) → WellFormed (decode f wd td (memberTypeWord wd j))
+    → Entered ask (decode f ws ts) (decode f wd td) (askNamed ask (decode f wd td) (membersOfType (decode f ws ts) ws ts s) wd td j) r

@@ -1,10 +1,13 @@
 // What a type's record and its rows say to a walk.
 ghost use mathlib.Core.Path.{_≡_};
+ghost use mathlib.Core.Bool.{Bool};
 ghost use Prim.Native.Nat.{_<_};
+ghost use Rattle.datatype.specs.Datatype.{Datatype};
 ghost use Rattle.datatype.specs.Leaves.{within};
 ghost use Rattle.table.specs.Table.{nameAt, firstWord, rowsWord};
 ghost use Rattle.table.specs.Rows.{rowNamed};
-ghost use Rattle.paths.specs.Steps.{covers, rowOver, rowEnd, Nearer, GapEnd, kindAt};
+ghost use Rattle.paths.specs.Steps.{covers, rowOver, rowEnd, Nearer, GapEnd, kindAt, Inside};
+use crate::Inner;
 use row_lookup::row_named;
 use table::CLASS;
 use table::CLASSES;
@@ -119,6 +122,33 @@ pub fn row_of_name(
         start,
         len,
     )
+}
+
+// The types of the destination's member in the row and of the member of its name in the source compound.
+pub fn inner_types(
+    source_half: &[u32],
+    source_sheet: &[u8],
+    source_type: usize,
+    destination_half: &[u32],
+    destination_sheet: &[u8],
+    row: usize,
+) -> Inner
+    ensures { λ r. ⌜ ((ask : Datatype → Datatype → Bool) → Inside ask (now («source_half» .entry)) (now («source_sheet» .entry)) «source_type» (now («destination_half» .entry)) (now («destination_sheet» .entry)) row r) ⌝ }
+{
+    match row_of_name(
+        source_half,
+        source_sheet,
+        source_type,
+        destination_half,
+        destination_sheet,
+        row,
+    ) {
+        Found::At(m) => Inner::Both(
+            row_word(source_half, m, MEMBER_TYPE),
+            row_word(destination_half, row, MEMBER_TYPE),
+        ),
+        Found::Missing => Inner::Neither,
+    }
 }
 
 // The kind of a type: 0 int, 1 bits, 2 enum, 3 compound, 4 array, 5 real.

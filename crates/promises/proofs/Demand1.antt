@@ -11,18 +11,20 @@ use lib.IntN.{ℤ}
 use lib.ListN.{length}
 use borrow.Author.Tests.{leb-true, leb-false}
 use Rattle.answer.specs.declared.Answer.{Answer}
-use Rattle.answer.specs.declared.Answer.the-variants.{Done, Handling, Table, Source, Destination, Path, Count, Room, Stop}
+use Rattle.answer.specs.declared.Answer.the-variants.{Done, Handling, Table, Source, Destination, Path, Count, Room, Stop, Symbols}
 use Rattle.answer.specs.declared.Given as answer
 use Rattle.answer.specs.declared.Values.{Values}
 use Rattle.answer.specs.Answer.{numberOf, valuesOf}
 use Rattle.datatype.specs.Datatype.{Leaf, Datatype, size}
 use Rattle.datatype.specs.Symbols.{onSome}
 use Rattle.datatype.specs.Paths.{hasPath}
+use Rattle.datatype.specs.SymbolSets.{keepsSymbols}
 use Rattle.datatype.specs.Matches.{Match, matchAt}
 use Rattle.datatype.specs.Matches.Match.{unmatched, matched}
 use Rattle.datatype.specs.WellFormed.{WellFormed}
 use Rattle.datatype.proofs.Ways.{way-starts, match-way}
 use Rattle.datatype.proofs.HasPath.{has-path}
+use Rattle.datatype.proofs.SymbolSets.{lost-symbol}
 use Rattle.sheet.specs.Sheet.{sheetOf}
 use Rattle.sheet.specs.Sheet.Sheet.{ofType}
 use Rattle.sheet.proofs.FirstFault.{first-fault}
@@ -43,7 +45,7 @@ use Rattle.runs.proofs.Refusals.Right.{none-given, first-given}
 use Rattle.promises.specs.Promise.{answerNumber, answerFields, becomes}
 use Rattle.promises.specs.Demand1.{Exception, Row, number, Given, order, Fields, DoneFields, Demand1}
 use Rattle.promises.proofs.Stops.{kind-of, first-leaf, first-raises}
-use Rattle.promises.specs.Demand1.Row.{HANDLING, TABLE, SOURCE, DESTINATION, PATH, COUNT, ROOM, STOP}
+use Rattle.promises.specs.Demand1.Row.{HANDLING, TABLE, SOURCE, DESTINATION, PATH, SYMBOLS, COUNT, ROOM, STOP}
 
 -- ---- handling
 
@@ -129,14 +131,18 @@ module _ (r : Run) (S D : Datatype) (s : sheetOf (r .sourceSheet) ≡ ofType S) 
       (handled-number S D (suc h) (r .count) fs)
 
   types-right : r .handling ≤ 1
-      → Right (rows r) (PATH ∷ COUNT ∷ ROOM ∷ STOP ∷ []) (onChecked (answerFor r) (λ refusal. refusal) (typeChecks (r .form) (r .count) (length (r .source)) (length (r .background)) S D))
+      → Right (rows r) (PATH ∷ SYMBOLS ∷ COUNT ∷ ROOM ∷ STOP ∷ []) (onChecked (answerFor r) (λ refusal. refusal) (typeChecks (r .form) (r .count) (length (r .source)) (length (r .background)) S D))
   types-right l =
       let x : ℕ = length (r .source) in
       let y : ℕ = length (r .background) in
       let path = has-path S D (read-well-formed (r .destinationSheet) D d) in
+      let symbols = lost-symbol S D (read-well-formed (r .sourceSheet) S s) (read-well-formed (r .destinationSheet) D d) in
       by-test (rows r) PATH (answerFor r) (hasPath S D) Path _ refl refl
       (λ e. of-types (r .sourceSheet) (r .destinationSheet) S D s d (λ h. false≢true (sym e ∙ path .1 h)))
       (λ e g. by-types (r .sourceSheet) (r .destinationSheet) S D s d g (path .0 e))
+      λ e. by-test (rows r) SYMBOLS (answerFor r) (keepsSymbols S D) Symbols _ refl refl
+      (λ e. of-types (r .sourceSheet) (r .destinationSheet) S D s d (symbols .0 e))
+      (λ e g. false≢true (sym (symbols .1 (by-types (r .sourceSheet) (r .destinationSheet) S D s d g)) ∙ e))
       λ e. by-test (rows r) COUNT (answerFor r) (leb (r .count) 65536) Count _ refl refl
       (λ e. leb-false (r .count) 65536 e)
       (λ e g. omega (arith, leb-true (r .count) 65536 e, g))
@@ -170,9 +176,10 @@ each-not r n TABLE = n .1 .0
 each-not r n SOURCE = n .1 .1 .0
 each-not r n DESTINATION = n .1 .1 .1 .0
 each-not r n PATH = n .1 .1 .1 .1 .0
-each-not r n COUNT = n .1 .1 .1 .1 .1 .0
-each-not r n ROOM = n .1 .1 .1 .1 .1 .1 .0
-each-not r n STOP = n .1 .1 .1 .1 .1 .1 .1 .0
+each-not r n SYMBOLS = n .1 .1 .1 .1 .1 .0
+each-not r n COUNT = n .1 .1 .1 .1 .1 .1 .0
+each-not r n ROOM = n .1 .1 .1 .1 .1 .1 .1 .0
+each-not r n STOP = n .1 .1 .1 .1 .1 .1 .1 .1 .0
 
 -- the first of the rows with this number
 numbered : ℕ → List Row → Row
@@ -186,6 +193,7 @@ row-numbered TABLE = refl
 row-numbered SOURCE = refl
 row-numbered DESTINATION = refl
 row-numbered PATH = refl
+row-numbered SYMBOLS = refl
 row-numbered COUNT = refl
 row-numbered ROOM = refl
 row-numbered STOP = refl
@@ -199,6 +207,7 @@ some-number TABLE = omega arith
 some-number SOURCE = omega arith
 some-number DESTINATION = omega arith
 some-number PATH = omega arith
+some-number SYMBOLS = omega arith
 some-number COUNT = omega arith
 some-number ROOM = omega arith
 some-number STOP = omega arith
@@ -212,6 +221,7 @@ module _ (r : Run) where
   one-fields SOURCE p q = one-line (r .sourceSheet) (p .1) (p .2) (q .1) (q .2)
   one-fields DESTINATION p q = one-line (r .destinationSheet) (p .1) (p .2) (q .1) (q .2)
   one-fields PATH p q = p ∙ sym q
+  one-fields SYMBOLS p q = p ∙ sym q
   one-fields COUNT p q = p ∙ sym q
   one-fields ROOM p q = p ∙ sym q
   one-fields STOP p q = let t = same-types (r .sourceSheet) (r .destinationSheet) p q in t .2 .5 ∙ one-first (t .2 .4) (t .3 .4) ∙ sym (t .3 .5)

@@ -1,6 +1,6 @@
 -- Document 01, "Exercises with answers": the marked ones that document 02 leaves, with the two of 2026-04; its leaf list, two more that tell the remaining
--- classroom errors apart, numbers to and from the reals of 2026-03, and what 2026-05 has STOP name, as one statement over one list, which the checker computes.
--- Assumes nothing.
+-- classroom errors apart, numbers to and from the reals of 2026-03, what 2026-05 has STOP name, and the symbols that 2026-07 asks for, as one statement over one
+-- list, which the checker computes. Assumes nothing.
 use mathlib.Core.Path.{_≡_, refl}
 use mathlib.Core.Bool.{Bool, true, false}
 use mathlib.Core.List.{List, [], _∷_, _++_, map}
@@ -9,7 +9,7 @@ use Prim.Native.String.{String}
 use lib.IntN.{ℤ, pos, negsuc}
 use lib.ListN.{replicate}
 use Rattle.answer.specs.declared.Answer.{Answer}
-use Rattle.answer.specs.declared.Answer.the-variants.{Done, Stop, Range}
+use Rattle.answer.specs.declared.Answer.the-variants.{Done, Stop, Range, Symbols}
 use Rattle.answer.specs.declared.Given.the-variants.{Whole, Real}
 use Rattle.answer.specs.Answer.{numberOf, valuesOf}
 use Rattle.bits.specs.declared.Order.{Order}
@@ -31,6 +31,7 @@ use Rattle.datatype.specs.Symbols.{symbolOf, numberOf as numberNamed}
 use Rattle.datatype.specs.Leaves as leaves
 use Rattle.datatype.specs.Paths as paths
 use Rattle.datatype.specs.Matches as matches
+use Rattle.datatype.specs.SymbolSets as symbols
 use Rattle.text.specs.Text as text
 use Rattle.text.specs.Text.{bytes}
 use Rattle.text.specs.Field as fields
@@ -61,7 +62,7 @@ data Solution : Type 0 where
   answered : Answer → List ℕ → Solution
 
 -- a table of just enough words, not all zero
-abbrev words : List ℕ
+abbrev pub words : List ℕ
 words = 7 ∷ replicate 8191 0
 
 solve : Exercise → Solution
@@ -93,6 +94,16 @@ state = "int\t1\tLE\t0\t8\tzero\tzero\tunsigned\nenum\t0\nvalue\topen\t0\nvalue\
 
 abbrev exchanged : String
 exchanged = "int\t1\tLE\t0\t8\tzero\tzero\tunsigned\nenum\t0\nvalue\topen\t1\nvalue\tshut\t0\n"
+
+abbrev openAlone : String
+openAlone = "int\t1\tLE\t0\t8\tzero\tzero\tunsigned\nenum\t0\nvalue\topen\t0\n"
+
+-- a state that is open, there and back
+abbrev pub there : Run
+there = copyingRun (bytes openAlone) (bytes state) 1 plain (0 ∷ []) (0x55 ∷ []) words
+
+abbrev pub back : Run
+back = copyingRun (bytes state) (bytes openAlone) 1 plain (after there) (0x55 ∷ []) words
 
 abbrev signedByte : String
 signedByte = "int\t1\tLE\t0\t8\tzero\tzero\tsigned\n"
@@ -188,6 +199,25 @@ rows =
       exercise = run (copyingRun (bytes realBE) (bytes unsignedByte) 1 1 (0x40 ∷ 4 ∷ 0 ∷ 0 ∷ 0 ∷ 0 ∷ 0 ∷ 0 ∷ []) (0x55 ∷ []) words);
       solution = answered (Stop 0 0 5 (Real 0x4004000000000000)) (0x55 ∷ []);
     }
+    -- a symbol more in the destination: the run is done, and its way back is refused before any record is looked at, or with none to look at
+    ∷ record { exercise = run there; solution = answered (Done 0) (0 ∷ []) }
+    ∷ record { exercise = run back; solution = answered Symbols (0x55 ∷ []) }
+    ∷ record { exercise = run (inPlaceRun (bytes state) (bytes openAlone) 0 1 [] [] words); solution = answered Symbols [] }
+    -- each matched member is looked at; one whose name the source lacks is not matched, and its symbols don't count
+    ∷ record {
+      exercise =
+          run
+          (copyingRun (bytes "int\t1\tLE\t0\t8\tzero\tzero\tunsigned\nenum\t0\nvalue\topen\t0\nvalue\tshut\t1\ncomp\t2\nmember\tvalve\t0\t1\nmember\tdoor\t1\t1\n") (bytes "int\t1\tLE\t0\t8\tzero\tzero\tunsigned\nenum\t0\nvalue\topen\t0\nvalue\tshut\t1\nenum\t0\nvalue\topen\t0\ncomp\t2\nmember\tvalve\t0\t1\nmember\tdoor\t1\t2\n") 1 plain
+          (1 ∷ 0 ∷ []) (0x55 ∷ 0x66 ∷ []) words);
+      solution = answered Symbols (0x55 ∷ 0x66 ∷ []);
+    }
+    ∷ record {
+      exercise =
+          run
+          (copyingRun (bytes "int\t1\tLE\t0\t8\tzero\tzero\tunsigned\nenum\t0\nvalue\topen\t0\nvalue\tshut\t1\ncomp\t2\nmember\tvalve\t0\t1\nmember\tdoor\t1\t1\n") (bytes "int\t1\tLE\t0\t8\tzero\tzero\tunsigned\nenum\t0\nvalue\topen\t0\nvalue\tshut\t1\nenum\t0\nvalue\topen\t0\ncomp\t2\nmember\tvalve\t0\t1\nmember\tlid\t1\t2\n") 1 plain
+          (1 ∷ 0 ∷ []) (0x55 ∷ 0x66 ∷ []) words);
+      solution = answered (Done 0) (1 ∷ 0x66 ∷ []);
+    }
     ∷ record {
       exercise =
           list "int\t2\tBE\t4\t12\tzero\tzero\tunsigned\nint\t1\tLE\t0\t8\tzero\tzero\tsigned\nenum\t1\nvalue\topen\t0\nvalue\tshut\t1\narray\t0\t3\ncomp\t8\nmember\tboost\t0\t3\nmember\tvalve\t7\t2\n";
@@ -196,5 +226,5 @@ rows =
     ∷ []
 
 solved : map (λ (r : Row). solve (r .exercise)) rows ≡ map (λ (r : Row). r .solution) rows
-unfolding rows solve setters.setSize setters.setField same symbolOf numberNamed leaves.within leaves.leafAt paths.memberNamed paths.hasPath matches.matchAt text.split fields.digits fields.decimal fields.number fields.enumNumber fields.decimalIn fields.eachPrintable fields.name line.column line.order line.pad line.sign line.layoutColumns line.intLine line.bitsLine line.enumLineOf line.valueLineOf line.compoundLineOf line.memberLineOf line.numbers line.arrayLineOf line.realLineOf line.lineKind line.lineOf sheet.typeNumbered sheet.isApart sheet.judge sheet.linesFrom sheet.outcomeOf sheet.sheetOf worths.worth nearest.highest nearest.magnitudeBits reals.intToReal reals.realToIntOf one.reading one.withLeaf one.withLeavesBelow one.kindAt one.givenAt one.raisedBelow one.firstRaising many.joined many.exceptions runs.checksOf runs.stopFrom runs.answer runs.after lists.leafLines lists.leafList listing.answerOf listing.listAfter
+unfolding rows solve setters.setSize setters.setField same symbolOf numberNamed leaves.within leaves.leafAt paths.memberNamed paths.hasPath matches.matchAt symbols.hasSymbol symbols.allStandIn symbols.keepsSymbols text.split fields.digits fields.decimal fields.number fields.enumNumber fields.decimalIn fields.eachPrintable fields.name line.column line.order line.pad line.sign line.layoutColumns line.intLine line.bitsLine line.enumLineOf line.valueLineOf line.compoundLineOf line.memberLineOf line.numbers line.arrayLineOf line.realLineOf line.lineKind line.lineOf sheet.typeNumbered sheet.isApart sheet.judge sheet.linesFrom sheet.outcomeOf sheet.sheetOf worths.worth nearest.highest nearest.magnitudeBits reals.intToReal reals.realToIntOf one.reading one.withLeaf one.withLeavesBelow one.kindAt one.givenAt one.raisedBelow one.firstRaising many.joined many.exceptions runs.checksOf runs.stopFrom runs.answer runs.after lists.leafLines lists.leafList listing.answerOf listing.listAfter
 solved = refl

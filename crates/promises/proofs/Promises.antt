@@ -9,12 +9,15 @@ use lib.Dec.{leb}
 use lib.ListN.{length, take, drop}
 use borrow.Author.Tests.{le-leb, leb-true}
 use Rattle.answer.specs.declared.Answer.{Answer}
-use Rattle.answer.specs.declared.Answer.the-variants.{Done, Handling, Table, Room}
+use Rattle.answer.specs.declared.Answer.the-variants.{Done, Handling, Table, Room, Symbols}
 use Rattle.answer.specs.Answer.{numberOf, valuesOf}
 use Rattle.number.specs.Place.{place, stored}
-use Rattle.datatype.specs.Datatype.{layoutOf, Datatype, size}
+use Rattle.datatype.specs.Datatype.{Leaf, layoutOf, Datatype, size}
+use Rattle.datatype.specs.Matches.Match.{matched}
 use Rattle.datatype.specs.WellFormed.{WellFormedLeaf, WellFormed}
-use Rattle.datatype.proofs.Matches.{match-formed, path-back}
+use Rattle.datatype.specs.SymbolSets.{LostSymbol, EqualSymbols}
+use Rattle.datatype.proofs.Matches.{match-formed, match-path, path-back}
+use Rattle.datatype.proofs.SymbolSets.{each-stands, lost-symbol, equal-back, equal-or-lost}
 use Rattle.sheet.specs.Sheet.{sheetOf}
 use Rattle.sheet.proofs.ReadWellFormed.{read-well-formed}
 use Rattle.records.specs.Leaf.{numberIn}
@@ -29,12 +32,13 @@ use Rattle.runs.specs.Run.{Form, Run, handled, result, checksOf, checks, answer
 use Rattle.runs.specs.Run.Form.{inPlace}
 use Rattle.runs.specs.Run.Checked.{refused, passed}
 use Rattle.runs.specs.Parts.{convertedBytes, clearedTail, zeros, laterBytes}
-use Rattle.runs.proofs.Checks.{done-is, stop-is, refused-or-passed, passed-tells, tells-passed, room-behind, refused-early, in-place-checks, table-long}
+use Rattle.runs.proofs.Checks.{done-is, stop-is, refused-or-passed, passed-tells, tells-passed, symbols-refused, room-behind, Early, refused-early, in-place-checks, table-long}
 use Rattle.runs.proofs.Exceptions.{handled-quiet, quiet-handled, handled-first, same-handled, handled-number, handled-count}
 use Rattle.runs.proofs.Buffers.{answer-refused, after-refused, answer-is, after-is, after-cases, result-none, result-converted, result-cleared, result-later, result-length}
 use Rattle.runs.proofs.Table.{cleared-zero, cleared-beyond, cleared-length, table-cases}
 use Rattle.promises.proofs.Stops.{first-leaf, first-record, first-byte, first-given}
-use Rattle.promises.specs.Promise.{answerNumber, answerFields, SameAnswer, IsDone, DoneWithoutException, RefusedBeforeStop, Types, before, SameCall, SameBackground, SameConverted, SameCleared, SameEffect, Demand3, OnSignificantBits, WayBack, Returned, fromCopy, AsFromCopy, becomes, recordOf, arrivedNumber, Arrived, Stopped, Uncovered, Kept, table, TableKept}
+use Rattle.promises.proofs.WithoutSymbol.{kind-3-of}
+use Rattle.promises.specs.Promise.{answerNumber, answerFields, SameAnswer, IsDone, DoneWithoutException, RefusedBeforeStop, Types, before, SameCall, SameBackground, SameConverted, SameCleared, SameEffect, Demand3, OnSignificantBits, WayBack, Returned, OnlyWhereEqual, fromCopy, AsFromCopy, becomes, KindThree, recordOf, arrivedNumber, Arrived, Stopped, Uncovered, Kept, table, TableKept}
 
 -- ---- answers
 
@@ -49,15 +53,18 @@ zero-done r e = record { done = ap numberOf e; count = ap (λ (a : Answer). valu
 
 refused-before : (r : Run) (a : Answer) → checks r ≡ refused a → RefusedBeforeStop r
 refused-before r a c =
-    let n = refused-early r a c in
-    let e : answerNumber r ≡ numberOf a = ap numberOf (answer-refused r a c) in
-    record { refused = omega (arith, n .0); before = omega (arith, n .1) }
+    subst Early (sym (ap numberOf (answer-refused r a c))) (refused-early r a c)
+
+-- done or stopped is not refused before STOP
+not-early : {k : ℕ} → (k ≡ 0) ⊎ (k ≡ 8) → ¬ (Early k)
+not-early (inl e) (inl n) = omega (arith, e, n .0)
+not-early (inl e) (inr n) = omega (arith, e, n)
+not-early (inr e) (inl n) = omega (arith, e, n .1)
+not-early (inr e) (inr n) = omega (arith, e, n)
 
 passed-not-before : (r : Run) (S D : Datatype) → checks r ≡ passed S D → ¬ (RefusedBeforeStop r)
 passed-not-before r S D c n =
-    ⊎-elim (λ (e : numberOf (answerFor r S D) ≡ 0). omega (arith, n .refused, ap numberOf (answer-is r S D c)))
-    (λ (e : numberOf (answerFor r S D) ≡ 8). omega (arith, n .before, ap numberOf (answer-is r S D c)))
-    (handled-number S D (r .handling) (r .count) (readings S D (r .source)))
+    not-early (handled-number S D (r .handling) (r .count) (readings S D (r .source))) (subst Early (ap numberOf (answer-is r S D c)) n)
 
 -- the checks pass with the types of the sheets
 passed-types : (r : Run) (S D : Datatype) → Types r S D → (U W : Datatype) → checks r ≡ passed U W → checks r ≡ passed S D
@@ -73,7 +80,7 @@ passes r S D t n =
     (λ (x : (U : Datatype) × (W : Datatype) × (checks r ≡ passed U W)). passed-types r S D t (x .0) (x .1) (x .2)) (refused-or-passed (checks r))
 
 done-passes : (r : Run) (S D : Datatype) → Types r S D → IsDone r → checks r ≡ passed S D
-done-passes r S D t d = passes r S D t (λ n. omega (arith, n .refused))
+done-passes r S D t d = passes r S D t (not-early (inl d))
 
 -- ---- a run that no check before STOP refuses
 
@@ -218,15 +225,15 @@ module _ (r : Run) (form : r .form ≡ inPlace) where
 
 -- ---- there and back
 
-module _ (r q : Run) (S D : Datatype) (c : checks r ≡ passed S D) (e : answer r ≡ Done 0) (w : WayBack S D r q) where
+module _ (r q : Run) (S D : Datatype) (c : checks r ≡ passed S D) (w : WayBack S D r q) where
   fs : WellFormed S
   fs = source-formed r S D c
 
   fd : WellFormed D
   fd = destination-formed r S D c
 
-  back-passes : checks q ≡ passed D S
-  back-passes =
+  back-passes : EqualSymbols S D → checks q ≡ passed D S
+  back-passes x =
       let p = passed-tells r S D c in
       tells-passed q D S
       (record {
@@ -235,24 +242,32 @@ module _ (r q : Run) (S D : Datatype) (c : checks r ≡ passed S D) (e : answer 
         source = ap sheetOf (w .sourceSheet) ∙ p .destination;
         destination = ap sheetOf (w .destinationSheet) ∙ p .source;
         path = path-back S D fs fd (p .path);
+        symbols = equal-back S D fs fd x;
         count = ap (λ (n : ℕ). leb n 65536) (w .count) ∙ p .count;
         room = w .room;
       })
 
+  back-refused : LostSymbol D S → checks q ≡ refused Symbols
+  back-refused x =
+      let p = passed-tells r S D c in
+      symbols-refused q D S (le-leb (q .handling) 1 (w .handling)) (le-leb 8192 (length (q .table)) (w .table)) (ap sheetOf (w .sourceSheet) ∙ p .destination)
+      (ap sheetOf (w .destinationSheet) ∙ p .source) (path-back S D fs fd (p .path)) (lost-symbol D S fd fs .1 x)
+
+module _ (r q : Run) (S D : Datatype) (c : checks r ≡ passed S D) (e : answer r ≡ Done 0) (w : WayBack S D r q) (p : checks q ≡ passed D S) where
   -- what q converts is what r made
   back-source : take (r .count * size D) (q .source) ≡ convertedRecords S D (r .count) (readings S D (r .source)) (r .background)
   back-source = ap (λ (n : ℕ). take (n * size D) (q .source)) (sym (w .count)) ∙ w .source ∙ converted-is r S D c (ap numberOf e)
 
   back-done : answer q ≡ Done 0
   back-done =
-      answer-is q D S back-passes
+      answer-is q D S p
       ∙ quiet-handled D S (q .handling) (q .count) (readings D S (q .source))
-      (rw (w .count) (returns-quiet S D fs fd (passed-tells r S D c .path) (r .count) (r .source) (r .background) (room r S D c) (quiet r S D c e) (q .source) back-source))
+      (rw (w .count) (returns-quiet S D (fs r q S D c w) (fd r q S D c w) (passed-tells r S D c .path) (r .count) (r .source) (r .background) (room r S D c) (quiet r S D c e) (q .source) back-source))
 
   back-numbers : Agree S D (r .count) (after q) (r .source)
   back-numbers =
-      returns-same S D fs fd (passed-tells r S D c .path) (r .count) (r .source) (r .background) (room r S D c) (quiet r S D c e) (q .source) back-source
-      (q .background) (rw (← (w .count)) (room q D S back-passes)) (after q) (rw (← (w .count)) (converted-is q D S back-passes (ap numberOf back-done)))
+      returns-same S D (fs r q S D c w) (fd r q S D c w) (passed-tells r S D c .path) (r .count) (r .source) (r .background) (room r S D c) (quiet r S D c e) (q .source) back-source
+      (q .background) (rw (← (w .count)) (room q D S p)) (after q) (rw (← (w .count)) (converted-is q D S p (ap numberOf back-done)))
 
 -- ---- what the buffer holds
 
@@ -303,7 +318,7 @@ module _ (r : Run) where
   -- a run that is done has types, and its buffer is the result
   done-result : IsDone r → (S : Datatype) × (D : Datatype) × (checks r ≡ passed S D) × (after r ≡ result (r .form) S D (r .count) (r .source) (r .background))
   done-result d =
-      ⊎-elim (λ (x : (a : Answer) × (checks r ≡ refused a)). absurd (let n = refused-before r (x .0) (x .1) in omega (arith, n .refused)))
+      ⊎-elim (λ (x : (a : Answer) × (checks r ≡ refused a)). absurd (not-early (inl d) (refused-before r (x .0) (x .1))))
       (λ (x : (S : Datatype) × (D : Datatype) × (checks r ≡ passed S D)).
       (x .0, x .1, x .2, after-is r (x .0) (x .1) (x .2) (answerFields r .count) (done-is (answer r) d)))
       (refused-or-passed (checks r))
@@ -404,12 +419,22 @@ on-significant-bits r q s S D t =
     }
 
 -- Demand 2, the way back. Where a run is done without an exception, its way back, in either form, with any handling and over any background, is done without
--- an exception, and every matched number is the original one.
-pub way-back : (r q : Run) (S D : Datatype) → Types r S D → DoneWithoutException r → WayBack S D r q → Returned S D r q
-way-back r q S D t d w =
+-- an exception, and every matched number is the original one. Document 02, 2026-07: this is claimed "only where matched enums have equal symbol sets".
+pub way-back : (r q : Run) (S D : Datatype) → Types r S D → EqualSymbols S D → DoneWithoutException r → WayBack S D r q → Returned S D r q
+way-back r q S D t x d w =
     let c : checks r ≡ passed S D = done-passes r S D t (d .done) in
     let e : answer r ≡ Done 0 = done-zero r d in
-    record { done = zero-done q (back-done r q S D c e w); numbers = back-numbers r q S D c e w }
+    let p : checks q ≡ passed D S = back-passes r q S D c w x in
+    record { done = zero-done q (back-done r q S D c e w p); numbers = back-numbers r q S D c e w p }
+
+-- And no less will do: where they have not, the way back is refused.
+pub only-where-equal : (r q : Run) (S D : Datatype) → Types r S D → IsDone r → WayBack S D r q → OnlyWhereEqual S D q
+only-where-equal r q S D t d w =
+    let c : checks r ≡ passed S D = done-passes r S D t d in
+    record {
+      equal-or-lost = equal-or-lost S D (fs r q S D c w) (fd r q S D c w) (passed-tells r S D c .symbols);
+      refused = λ x. ap numberOf (answer-refused q Symbols (back-refused r q S D c w x));
+    }
 
 -- Demand 2, in place: "The result equals conversion from a copy".
 pub in-place : (r : Run) → r .form ≡ inPlace → AsFromCopy r
@@ -419,10 +444,22 @@ in-place r form = in-place-from-copy r form
 pub arrival : (r : Run) (S D : Datatype) → Types r S D → IsDone r → (m : MatchedLeaf S D (r .count)) → Arrived r m
 arrival r S D t d m = arrived r S D (done-passes r S D t d) d m
 
+-- Demand 2, what raises kind 3 in a run that no check before STOP refuses.
+pub kind-3 : (r : Run) (S D : Datatype) → Types r S D → ¬ (RefusedBeforeStop r) → (m : MatchedLeaf S D (r .count)) → KindThree r m
+kind-3 r S D t n m l ss e =
+    let c : checks r ≡ passed S D = passes r S D t n in
+    let p = passed-tells r S D c in
+    let fs : WellFormed S = source-formed r S D c in
+    let fd : WellFormed D = destination-formed r S D c in
+    kind-3-of (m .source) (m .destination) (matchedNumber m (r .source)) l ss e
+    (match-path S D fs fd (p .path) (m .to) (m .from) (m .source) (m .destination) (m .match))
+    (match-formed S D fs fd (m .to) (m .from) (m .source) (m .destination) (m .match) .1)
+    (λ k ts d. each-stands S D fs fd (p .symbols) (m .to) (m .from) l k ss ts (m .match ∙ ap₂ (λ (x y : Leaf). matched (m .from) x y) e d))
+
 -- Demand 2, what a run that is stopped names.
 pub stopped : (r : Run) (S D : Datatype) → Types r S D → answerNumber r ≡ 8 → Stopped S D r
 stopped r S D t e =
-    let c : checks r ≡ passed S D = passes r S D t (λ n. omega (arith, n .before)) in
+    let c : checks r ≡ passed S D = passes r S D t (not-early (inr e)) in
     let s = stop-is (answer r) e in
     let f =
     handled-first S D (r .handling) (r .count) (readings S D (r .source)) (answerFields r .«record») (answerFields r .at) (answerFields r .kind) (s .0)

@@ -1,5 +1,5 @@
 -- Demand 1: which number a run answers, and every field beside it. Document 01's table "Numbers of refusal, in the order of checks", row by row in its own
--- words. A plain form is a run with handling 0. What the table says of setters and of the leaf list is not here: no run is one.
+-- words; document 02, 2026-07: "12 SYMBOLS, between PATH and COUNT". A plain form is a run with handling 0. What the table says of setters and of the leaf list is not here: no run is one.
 use mathlib.Core.Path.{_≡_}
 use mathlib.Core.Logic.{_⊎_, _↔_}
 use mathlib.Core.List.{List, [], _∷_}
@@ -9,6 +9,7 @@ use Rattle.answer.specs.declared.Given as answer
 use Rattle.answer.specs.declared.Values.{Values}
 use Rattle.datatype.specs.Datatype.{Datatype, size}
 use Rattle.datatype.specs.HasPath.{HasPath}
+use Rattle.datatype.specs.SymbolSets.{LostSymbol}
 use Rattle.sheet.specs.FirstFault.{FirstFault}
 use Rattle.records.specs.Records.{readings, exceptions}
 use Rattle.records.specs.Matched.{MatchedLeaf}
@@ -32,7 +33,7 @@ pub record Exception (r : Run) (S D : Datatype) : Type 0 where
 
 -- the rows below "0 done"
 pub data Row : Type 0 where
-  HANDLING TABLE SOURCE DESTINATION PATH COUNT ROOM STOP : Row
+  HANDLING TABLE SOURCE DESTINATION PATH SYMBOLS COUNT ROOM STOP : Row
 
 -- the column "No."
 abbrev pub number : Row → ℕ
@@ -41,6 +42,7 @@ number TABLE = 2
 number SOURCE = 3
 number DESTINATION = 4
 number PATH = 5
+number SYMBOLS = 12
 number COUNT = 6
 number ROOM = 7
 number STOP = 8
@@ -57,6 +59,8 @@ Given r SOURCE = (line : ℕ) × FirstFault (r .sourceSheet) line
 Given r DESTINATION = (line : ℕ) × FirstFault (r .destinationSheet) line
 -- "no path"
 Given r PATH = OfTypes r (λ S D. ¬ (HasPath S D))
+-- "on a matched pair of enums, every source symbol must stand in the destination": one does not
+Given r SYMBOLS = OfTypes r LostSymbol
 -- "n above 65,536"
 Given r COUNT = 65536 < r .count
 -- "source under nS, destination or background under nD, in-place buffer under n × max(S, D)"
@@ -66,7 +70,7 @@ Given r STOP = (r .handling ≡ 1) × OfTypes r (Exception r)
 
 -- "in the order of checks", which need not be that of the numbers
 abbrev pub order : List Row
-order = HANDLING ∷ TABLE ∷ SOURCE ∷ DESTINATION ∷ PATH ∷ COUNT ∷ ROOM ∷ STOP ∷ []
+order = HANDLING ∷ TABLE ∷ SOURCE ∷ DESTINATION ∷ PATH ∷ SYMBOLS ∷ COUNT ∷ ROOM ∷ STOP ∷ []
 
 -- the column "Place fields"
 abbrev pub Fields : Run → Row → Values → Type 0
@@ -76,6 +80,7 @@ Fields r TABLE v = v ≡ noField
 Fields r SOURCE v = (line : ℕ) × FirstFault (r .sourceSheet) line × (v ≡ onlyLine line)
 Fields r DESTINATION v = (line : ℕ) × FirstFault (r .destinationSheet) line × (v ≡ onlyLine line)
 Fields r PATH v = v ≡ noField
+Fields r SYMBOLS v = v ≡ noField
 Fields r COUNT v = v ≡ noField
 Fields r ROOM v = v ≡ noField
 -- "record, destination byte in it, kind": "STOP names the lowest record, and in it the raising leaf whose first byte is lowest." Document 02, 2026-05: "8 gains

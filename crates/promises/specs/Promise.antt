@@ -1,20 +1,25 @@
 -- What is promised of whole calls, over all their records: demands 2 and 3, and what the buffer that a call writes holds. Each statement is about runs,
 -- as they are defined in crate runs, and the form is a field of a run, so each speaks of every form; a plain form is a run with handling 0.
 use mathlib.Core.Path.{_≡_}
-use mathlib.Core.Logic.{_⊎_}
+use mathlib.Core.Logic.{_⊎_, _↔_}
 use mathlib.Core.Bool.{true}
 use mathlib.Core.List.{List}
+use mathlib.Core.Option.{none}
 use Prim.Native.Nat.{ℕ, _+_, _*_, _≤_, _<_}
 use lib.ListN.{length, take, drop, replicate}
 use lib.IntN.{ℤ}
 use Rattle.answer.specs.declared.Values.{Values}
 use Rattle.answer.specs.Answer.{numberOf, givenSign, givenMagnitude, valuesOf}
 use Rattle.answer.specs.declared.Given.{Given}
+use Rattle.layout.specs.declared.Layout.{Layout}
 use Rattle.number.specs.declared.Fitted.{Fitted}
 use Rattle.number.specs.Place.{place, stored}
-use Rattle.datatype.specs.Datatype.{Leaf, layoutOf, leafSize, Datatype, size}
+use Rattle.datatype.specs.Datatype.{Symbol, Leaf, layoutOf, leafSize, Datatype, size}
+use Rattle.datatype.specs.Datatype.Leaf.{enumeration}
+use Rattle.datatype.specs.Symbols.{symbolOf}
 use Rattle.datatype.specs.Matches.{matchAt}
 use Rattle.datatype.specs.Matches.Match.{matched}
+use Rattle.datatype.specs.SymbolSets.{LostSymbol, EqualSymbols}
 use Rattle.sheet.specs.Sheet.{sheetOf}
 use Rattle.sheet.specs.Sheet.Sheet.{ofType}
 use Rattle.records.specs.Leaf.{numberIn, givenOf, converted}
@@ -47,10 +52,9 @@ pub record DoneWithoutException (r : Run) : Type 0 where
   pub done : IsDone r
   pub count : answerFields r .count ≡ 0
 
--- "a check before STOP refuses": its number is 1 to 7
-pub record RefusedBeforeStop (r : Run) : Type 0 where
-  pub refused : 1 ≤ answerNumber r
-  pub before : answerNumber r ≤ 7
+-- "a check before STOP refuses": its number is 1 to 7; document 02, 2026-07: "12 SYMBOLS, between PATH and COUNT"
+abbrev pub RefusedBeforeStop : Run → Type 0
+RefusedBeforeStop r = ((1 ≤ answerNumber r) × (answerNumber r ≤ 7)) ⊎ (answerNumber r ≡ 12)
 
 -- the source sheet is of type S, the destination sheet of type D
 pub record Types (r : Run) (S D : Datatype) : Type 0 where
@@ -126,6 +130,16 @@ pub record Returned (S D : Datatype) (r q : Run) : Type 0 where
   pub done : DoneWithoutException q
   pub numbers : Agree S D (r .count) (after q) (r .source)
 
+-- Document 02, 2026-07: "Converting back, in demand 2, is now claimed only where matched enums have equal symbol sets." No less will do. Where r is done, they
+-- have, or a destination enum has a symbol that the source enum which it is matched with lacks; and there r's way back q is refused with 12 SYMBOLS.
+pub record OnlyWhereEqual (S D : Datatype) (q : Run) : Type 0 where
+  pub equal-or-lost : EqualSymbols S D ⊎ LostSymbol D S
+  pub refused : LostSymbol D S → answerNumber q ≡ 12
+
+-- the claim without that condition, which does not hold
+abbrev pub AlwaysReturned : Type 0
+AlwaysReturned = (r q : Run) (S D : Datatype) → Types r S D → DoneWithoutException r → WayBack S D r q → Returned S D r q
+
 -- ---- demand 2: in place
 
 -- "The result equals conversion from a copy": the copying run whose source is a copy of r's source, over the same background
@@ -152,6 +166,11 @@ pub record AsFromCopy (r : Run) : Type 0 where
 -- what the matched number of m in the buffer `source` becomes in its destination leaf
 abbrev pub becomes : {S D : Datatype} {n : ℕ} → MatchedLeaf S D n → List ℕ → Fitted
 becomes m source = converted (m .source) (m .destination) (matchedNumber m source)
+
+-- document 02, 2026-07: "Kind 3 remains for numbers without a symbol": of a matched enum, exactly for those
+abbrev pub KindThree : {S D : Datatype} (r : Run) → MatchedLeaf S D (r .count) → Type 0
+KindThree r m =
+    (l : Layout) (ss : List Symbol) → m .source ≡ enumeration l ss → becomes m (r .source) .kind ≡ 3 ↔ symbolOf (matchedNumber m (r .source)) ss ≡ none
 
 -- record i of `buffer`, where m is a matched leaf of record i
 abbrev pub recordOf : {S D : Datatype} {n : ℕ} → MatchedLeaf S D n → List ℕ → List ℕ

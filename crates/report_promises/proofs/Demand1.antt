@@ -9,12 +9,14 @@ use lib.Dec.{leb}
 use lib.ListN.{length}
 use borrow.Author.Tests.{leb-true, leb-false}
 use Rattle.answer.specs.declared.Answer.{Answer}
-use Rattle.answer.specs.declared.Answer.the-variants.{Done, Table, Source, Destination, Path, Count, Room, Channel, Full}
+use Rattle.answer.specs.declared.Answer.the-variants.{Done, Table, Source, Destination, Path, Count, Room, Channel, Full, Symbols}
 use Rattle.answer.specs.declared.Values.{Values}
 use Rattle.datatype.specs.Datatype.{Datatype, size}
 use Rattle.datatype.specs.Paths.{hasPath}
+use Rattle.datatype.specs.SymbolSets.{keepsSymbols}
 use Rattle.datatype.proofs.Tests.{and-true, and-false}
 use Rattle.datatype.proofs.HasPath.{has-path}
+use Rattle.datatype.proofs.SymbolSets.{lost-symbol}
 use Rattle.sheet.specs.Sheet.{sheetOf}
 use Rattle.sheet.specs.Sheet.Sheet.{ofType}
 use Rattle.sheet.proofs.FirstFault.{first-fault, whole}
@@ -33,7 +35,7 @@ use Rattle.channels.proofs.Full.{narrow-each, wide-one}
 use Rattle.channels.proofs.Takes.{not-taken, taken}
 use Rattle.reports.specs.Call.{Call, width, heldBefore, text, roomFor, typeChecks, checks, answer}
 use Rattle.report_promises.specs.Demand1.{OfReader, OfTypes, WiderLeaf, Row, number, Given, order, Fields, DoneFields, answerFields, Demand1}
-use Rattle.report_promises.specs.Demand1.Row.{TABLE, SOURCE, DESTINATION, CHANNEL, PATH, COUNT, ROOM, FULL, OUTPUT}
+use Rattle.report_promises.specs.Demand1.Row.{TABLE, SOURCE, DESTINATION, CHANNEL, PATH, SYMBOLS, COUNT, ROOM, FULL, OUTPUT}
 
 abbrev rows : Call → RefusalTable
 rows c = record { Row = Row; number = number; Given = Given c; Fields = Fields c; DoneFields = DoneFields c }
@@ -72,12 +74,13 @@ module _ (c : Call) (S D : Datatype) (s : sheetOf (c .sourceSheet) ≡ ofType S)
   by : {holds : Datatype → Datatype → Type 0} → OfTypes c holds → holds S D
   by h = by-types (c .sourceSheet) (c .readerSheet) S D s d h
 
-  types-right : Right (rows c) (CHANNEL ∷ PATH ∷ COUNT ∷ ROOM ∷ FULL ∷ OUTPUT ∷ []) (onChecked (passing c) (λ refusal. refusal) (typeChecks c S D))
+  types-right : Right (rows c) (CHANNEL ∷ PATH ∷ SYMBOLS ∷ COUNT ∷ ROOM ∷ FULL ∷ OUTPUT ∷ []) (onChecked (passing c) (λ refusal. refusal) (typeChecks c S D))
   types-right =
       let x : ℕ = length (c .log) in
       let y : ℕ = length (c .background) in
       let m : ℕ = length (c .memory) in
       let path = has-path S D (read-well-formed (c .readerSheet) D d) in
+      let symbols = lost-symbol S D (read-well-formed (c .sourceSheet) S s) (read-well-formed (c .readerSheet) D d) in
       let buffers = hasRoom inPlace (c .count) (size S) (size D) x y in
       let memory = leb (words (width D)) m in
       by-test (rows c) CHANNEL (passing c) (allNarrow (channels D)) Channel _ refl refl
@@ -86,6 +89,9 @@ module _ (c : Call) (S D : Datatype) (s : sheetOf (c .sourceSheet) ≡ ofType S)
       λ e. by-test (rows c) PATH (passing c) (hasPath S D) Path _ refl refl
       (λ e. of (λ h. false≢true (sym e ∙ path .1 h)))
       (λ e g. by g (path .0 e))
+      λ e. by-test (rows c) SYMBOLS (passing c) (keepsSymbols S D) Symbols _ refl refl
+      (λ e. of (symbols .0 e))
+      (λ e g. false≢true (sym (symbols .1 (by g)) ∙ e))
       λ e. by-test (rows c) COUNT (passing c) (leb (c .count) 65536) Count _ refl refl
       (λ e. leb-false (c .count) 65536 e)
       (λ e g. omega (arith, leb-true (c .count) 65536 e, g))
@@ -124,10 +130,11 @@ each-not c n SOURCE = n .1 .0
 each-not c n DESTINATION = n .1 .1 .0
 each-not c n CHANNEL = n .1 .1 .1 .0
 each-not c n PATH = n .1 .1 .1 .1 .0
-each-not c n COUNT = n .1 .1 .1 .1 .1 .0
-each-not c n ROOM = n .1 .1 .1 .1 .1 .1 .0
-each-not c n FULL = n .1 .1 .1 .1 .1 .1 .1 .0
-each-not c n OUTPUT = n .1 .1 .1 .1 .1 .1 .1 .1 .0
+each-not c n SYMBOLS = n .1 .1 .1 .1 .1 .0
+each-not c n COUNT = n .1 .1 .1 .1 .1 .1 .0
+each-not c n ROOM = n .1 .1 .1 .1 .1 .1 .1 .0
+each-not c n FULL = n .1 .1 .1 .1 .1 .1 .1 .1 .0
+each-not c n OUTPUT = n .1 .1 .1 .1 .1 .1 .1 .1 .1 .0
 
 some-number : (row : Row) → 1 ≤ number row
 some-number TABLE = omega arith
@@ -135,6 +142,7 @@ some-number SOURCE = omega arith
 some-number DESTINATION = omega arith
 some-number CHANNEL = omega arith
 some-number PATH = omega arith
+some-number SYMBOLS = omega arith
 some-number COUNT = omega arith
 some-number ROOM = omega arith
 some-number FULL = omega arith
@@ -146,6 +154,7 @@ one-fields c SOURCE p q = one-line (c .sourceSheet) (p .1) (p .2) (q .1) (q .2)
 one-fields c DESTINATION p q = one-line (c .readerSheet) (p .1) (p .2) (q .1) (q .2)
 one-fields c CHANNEL p q = p ∙ sym q
 one-fields c PATH p q = p ∙ sym q
+one-fields c SYMBOLS p q = p ∙ sym q
 one-fields c COUNT p q = p ∙ sym q
 one-fields c ROOM p q = p ∙ sym q
 one-fields c FULL p q = p ∙ sym q

@@ -24,7 +24,7 @@ use Rattle.reports.proofs.Checks.{answer-is, log-refused, memory-refused, outpu
 use Rattle.reports.proofs.Kept.{log-length, memory-length, output-length, output-behind, memory-room}
 use Rattle.report_promises.specs.Kept.{Unchanged, tableOf, TableKept, Kept}
 use Rattle.report_promises.specs.Demand1.{Row, number}
-use Rattle.report_promises.specs.Demand1.Row.{TABLE, SOURCE, DESTINATION, CHANNEL, PATH, COUNT, ROOM, FULL, OUTPUT}
+use Rattle.report_promises.specs.Demand1.Row.{TABLE, SOURCE, DESTINATION, CHANNEL, PATH, SYMBOLS, COUNT, ROOM, FULL, OUTPUT}
 use Rattle.report_promises.proofs.Demand1.{demand-1}
 
 -- ---- refusals
@@ -61,6 +61,7 @@ module _ (c : Call) where
   no-row DESTINATION e = omega (arith, e)
   no-row CHANNEL e = omega (arith, e)
   no-row PATH e = omega (arith, e)
+  no-row SYMBOLS e = omega (arith, e)
   no-row COUNT e = omega (arith, e)
   no-row ROOM e = omega (arith, e)
   no-row FULL e = omega (arith, e)

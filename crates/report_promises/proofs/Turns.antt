@@ -10,10 +10,11 @@ use lib.ListN.{length, take}
 use lib.IntN.{ℤ}
 use borrow.Author.Tests.{le-leb}
 use Rattle.answer.specs.declared.Answer.{Answer}
-use Rattle.answer.specs.declared.Answer.the-variants.{Done, Table, Source, Destination, Path, Count, Room, Channel, Full}
+use Rattle.answer.specs.declared.Answer.the-variants.{Done, Table, Source, Destination, Path, Count, Room, Channel, Full, Symbols}
 use Rattle.answer.specs.Answer.{numberOf}
 use Rattle.datatype.specs.Datatype.{Datatype, size}
 use Rattle.datatype.specs.Paths.{hasPath}
+use Rattle.datatype.specs.SymbolSets.{keepsSymbols}
 use Rattle.sheet.specs.Sheet.{Sheet, sheetOf}
 use Rattle.sheet.specs.Sheet.Sheet.{ofType, faultyAt}
 use Rattle.records.specs.Records.{readings}
@@ -44,10 +45,11 @@ abbrev earlyTypes : Call → Datatype → Datatype → Checked
 earlyTypes c S D =
     require (allNarrow (channels D)) Channel
     (require (hasPath S D) Path
+    (require (keepsSymbols S D) Symbols
     (require (leb (c .count) 65536) Count
     (require (roomFor c S D) Room
     (require (takes (c .count) (heldBefore c D)) Full
-    (passed S D)))))
+    (passed S D))))))
 
 abbrev early : Call → Checked
 early c =
@@ -71,9 +73,10 @@ checks-lastly c = sym (lastly-behind c (leb 8192 (length (c .table))) Table _ _ 
     types S D =
         lastly-behind c (allNarrow (channels D)) Channel _ _
         (lastly-behind c (hasPath S D) Path _ _
+        (lastly-behind c (keepsSymbols S D) Symbols _ _
         (lastly-behind c (leb (c .count) 65536) Count _ _
         (lastly-behind c (roomFor c S D) Room _ _
-        (lastly-behind c (takes (c .count) (heldBefore c D)) Full (passed S D) _ refl))))
+        (lastly-behind c (takes (c .count) (heldBefore c D)) Full (passed S D) _ refl)))))
 
     sheets : (x y : Sheet)
         → lastly c (withSheet x Source (λ S. withSheet y Destination (λ D. earlyTypes c S D))) ≡ withSheet x Source (λ S. withSheet y Destination (λ D. typeChecks c S D))

@@ -10,6 +10,7 @@ use Rattle.datatype.specs.Datatype.{same}
 use Rattle.datatype.specs.Symbols.{symbolOf, numberOf as numberNamed}
 use Rattle.datatype.specs.Leaves as leaves
 use Rattle.datatype.specs.Paths as paths
+use Rattle.datatype.specs.SymbolSets as symbols
 use Rattle.datatype.specs.Matches as matches
 use Rattle.reals.specs.Worth as worths
 use Rattle.reals.specs.Nearest as nearest
@@ -65,6 +66,12 @@ reader = "int\t1\tLE\t0\t8\tzero\tzero\tsigned\nint\t2\tLE\t0\t16\tzero\tzero\tu
 
 abbrev wide : String
 wide = "int\t8\tLE\t0\t33\tzero\tzero\tsigned\n"
+
+abbrev valve : String
+valve = "int\t1\tLE\t0\t8\tzero\tzero\tunsigned\nenum\t0\nvalue\topen\t0\nvalue\tshut\t1\n"
+
+abbrev openValve : String
+openValve = "int\t1\tLE\t0\t8\tzero\tzero\tunsigned\nenum\t0\nvalue\topen\t0\n"
 
 -- boost as a double, and oil; the reader's oil is a double, and its gear is not logged
 abbrev loggedReals : String
@@ -181,8 +188,10 @@ rows =
     }
     -- 10 before 5
     ∷ record { call = lent logged wide 0 [] [] three 54; result = refusal 10 three 54 }
+    -- a symbol that the reader lacks: 12 before 6
+    ∷ record { call = lent valve openValve 65537 [] [] three 54; result = refusal 12 three 54 }
     ∷ []
 
 worked : map (λ (r : Row). made (r .call)) rows ≡ map (λ (r : Row). r .result) rows
-unfolding rows lent made row memoryOf refusal same symbolOf numberNamed leaves.within leaves.leafAt paths.memberNamed paths.hasPath matches.matchAt text.split fields.digits fields.decimal fields.number fields.enumNumber fields.decimalIn fields.eachPrintable fields.name line.column line.order line.pad line.sign line.layoutColumns line.intLine line.bitsLine line.enumLineOf line.valueLineOf line.compoundLineOf line.memberLineOf line.numbers line.arrayLineOf line.realLineOf line.lineKind line.lineOf sheet.typeNumbered sheet.isApart sheet.judge sheet.linesFrom sheet.outcomeOf sheet.sheetOf worths.worth nearest.highest nearest.magnitudeBits reals.intToReal reals.realToIntOf one.reading one.withLeaf one.withLeavesBelow one.kindAt one.raisedBelow many.joined many.exceptions channels.channelsFrom channels.allNarrow channels.sampleAt reports.rowAfter reports.rowsAfter reports.rowsFrom reports.rowsWords reports.goodRows reports.takes shown.lines shown.shown calls.reportOf calls.checks calls.answer calls.logAfter calls.memoryAfter calls.outputAfter
+unfolding rows lent made row memoryOf refusal same symbolOf numberNamed leaves.within leaves.leafAt paths.memberNamed paths.hasPath matches.matchAt symbols.hasSymbol symbols.allStandIn symbols.keepsSymbols text.split fields.digits fields.decimal fields.number fields.enumNumber fields.decimalIn fields.eachPrintable fields.name line.column line.order line.pad line.sign line.layoutColumns line.intLine line.bitsLine line.enumLineOf line.valueLineOf line.compoundLineOf line.memberLineOf line.numbers line.arrayLineOf line.realLineOf line.lineKind line.lineOf sheet.typeNumbered sheet.isApart sheet.judge sheet.linesFrom sheet.outcomeOf sheet.sheetOf worths.worth nearest.highest nearest.magnitudeBits reals.intToReal reals.realToIntOf one.reading one.withLeaf one.withLeavesBelow one.kindAt one.raisedBelow many.joined many.exceptions channels.channelsFrom channels.allNarrow channels.sampleAt reports.rowAfter reports.rowsAfter reports.rowsFrom reports.rowsWords reports.goodRows reports.takes shown.lines shown.shown calls.reportOf calls.checks calls.answer calls.logAfter calls.memoryAfter calls.outputAfter
 worked = refl

@@ -1,5 +1,6 @@
 -- Demand 1 for the report: which number a call answers, and every field beside it. Document 02, 2026-01: "Refusals: 10 CHANNEL (a wider int leaf in the reader's
--- sheet) after 4; 7 also for this memory; then 11 FULL (..); then 7 for the output." The other rows are document 01's; there is no check 1.
+-- sheet) after 4; 7 also for this memory; then 11 FULL (..); then 7 for the output." 2026-07: "12 SYMBOLS, between PATH and COUNT". The other rows are document
+-- 01's; there is no check 1.
 use mathlib.Core.Path.{_≡_}
 use mathlib.Core.Logic.{_⊎_, _↔_}
 use mathlib.Core.List.{List, [], _∷_}
@@ -10,6 +11,7 @@ use Rattle.answer.specs.Answer.{valuesOf}
 use Rattle.layout.specs.declared.Layout.{Layout}
 use Rattle.datatype.specs.Datatype.{Datatype, size}
 use Rattle.datatype.specs.HasPath.{HasPath}
+use Rattle.datatype.specs.SymbolSets.{LostSymbol}
 use Rattle.sheet.specs.FirstFault.{FirstFault, Whole}
 use Rattle.runs.specs.Run.Form.{inPlace}
 use Rattle.runs.specs.Refusals.{OfSheets, TooShort, First, noField, onlyCount, onlyLine}
@@ -39,7 +41,7 @@ pub record WiderLeaf (D : Datatype) : Type 0 where
 -- ---- the table
 
 pub data Row : Type 0 where
-  TABLE SOURCE DESTINATION CHANNEL PATH COUNT ROOM FULL OUTPUT : Row
+  TABLE SOURCE DESTINATION CHANNEL PATH SYMBOLS COUNT ROOM FULL OUTPUT : Row
 
 abbrev pub number : Row → ℕ
 number TABLE = 2
@@ -47,6 +49,7 @@ number SOURCE = 3
 number DESTINATION = 4
 number CHANNEL = 10
 number PATH = 5
+number SYMBOLS = 12
 number COUNT = 6
 number ROOM = 7
 number FULL = 11
@@ -63,6 +66,8 @@ Given c DESTINATION = (line : ℕ) × FirstFault (c .readerSheet) line
 Given c CHANNEL = OfReader c WiderLeaf
 -- "no path"
 Given c PATH = OfTypes c (λ S D. ¬ (HasPath S D))
+-- "on a matched pair of enums, every source symbol must stand in the destination": one does not
+Given c SYMBOLS = OfTypes c LostSymbol
 -- "n above 65,536"
 Given c COUNT = 65536 < c .count
 -- "background under nD, in-place buffer under n × max(S, D)"; "2 + 4L signed 64-bit words for L int leaves"
@@ -76,7 +81,7 @@ Given c OUTPUT = OfTypes c (λ S D. length (c .output) < length (text c S D))
 
 -- the order of checks
 abbrev pub order : List Row
-order = TABLE ∷ SOURCE ∷ DESTINATION ∷ CHANNEL ∷ PATH ∷ COUNT ∷ ROOM ∷ FULL ∷ OUTPUT ∷ []
+order = TABLE ∷ SOURCE ∷ DESTINATION ∷ CHANNEL ∷ PATH ∷ SYMBOLS ∷ COUNT ∷ ROOM ∷ FULL ∷ OUTPUT ∷ []
 
 -- the fields beside a row's number: "the first faulty line is reported, from 1"
 abbrev pub Fields : Call → Row → Values → Type 0
@@ -85,6 +90,7 @@ Fields c SOURCE v = (line : ℕ) × FirstFault (c .sourceSheet) line × (v ≡ o
 Fields c DESTINATION v = (line : ℕ) × FirstFault (c .readerSheet) line × (v ≡ onlyLine line)
 Fields c CHANNEL v = v ≡ noField
 Fields c PATH v = v ≡ noField
+Fields c SYMBOLS v = v ≡ noField
 Fields c COUNT v = v ≡ noField
 Fields c ROOM v = v ≡ noField
 Fields c FULL v = v ≡ noField

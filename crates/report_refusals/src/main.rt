@@ -106,6 +106,33 @@ fn sheets() {
     );
 }
 
+// By a valve that is open or shut in the log, and only open for the reader.
+fn refused_symbols(name: &[u8], count: u64) {
+    let mut memory = [0i64; 6];
+    let mut output = [0u8; 64];
+    let mut table = [7u32; 8192];
+    refused(
+        name,
+        b"int\t1\tLE\t0\t8\tzero\tzero\tunsigned\nenum\t0\nvalue\topen\t0\nvalue\tshut\t1\n",
+        b"int\t1\tLE\t0\t8\tzero\tzero\tunsigned\nenum\t0\nvalue\topen\t1\n",
+        count,
+        &mut memory,
+        &mut output,
+        &mut table,
+    );
+}
+
+fn symbols() {
+    refused_symbols(b"12 shut is missing", 1);
+    refused_symbols(b"12 without records", 0);
+    refused_symbols(b"12 before 6", 65537);
+    refused_sheets(
+        b"10 before 12",
+        b"int\t1\tLE\t0\t8\tzero\tzero\tunsigned\nenum\t0\nvalue\topen\t0\nvalue\tshut\t1\ncomp\t1\nmember\tvalve\t0\t1\n",
+        b"int\t8\tLE\t0\t33\tzero\tzero\tunsigned\nenum\t0\nvalue\topen\t1\ncomp\t16\nmember\tvalve\t0\t1\nmember\tboost\t8\t0\n",
+    );
+}
+
 fn lent() {
     let mut output = [0u8; 64];
     let mut memory = [0i64; 6];
@@ -134,6 +161,7 @@ fn short_output() {
 fn main() {
     short_table();
     sheets();
+    symbols();
     lent();
     full();
     short_output();

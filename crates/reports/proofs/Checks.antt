@@ -9,10 +9,11 @@ use lib.Dec.{leb}
 use lib.ListN.{length, take, drop}
 use lib.Seq.{take-append-seam}
 use Rattle.answer.specs.declared.Answer.{Answer}
-use Rattle.answer.specs.declared.Answer.the-variants.{Done, Table, Source, Destination, Path, Count, Room, Channel, Full}
+use Rattle.answer.specs.declared.Answer.the-variants.{Done, Table, Source, Destination, Path, Count, Room, Channel, Full, Symbols}
 use Rattle.answer.specs.Answer.{numberOf, valuesOf}
 use Rattle.datatype.specs.Datatype.{Datatype, size}
 use Rattle.datatype.specs.Paths.{hasPath}
+use Rattle.datatype.specs.SymbolSets.{keepsSymbols}
 use Rattle.datatype.specs.WellFormed.{WellFormed}
 use Rattle.datatype.proofs.Tests.{and-true}
 use Rattle.sheet.specs.Sheet.{sheetOf}
@@ -52,10 +53,11 @@ checks-bare c =
     (λ S s. sheet-refuses Bare (sheetOf (c .readerSheet)) Destination _ (λ k. (omega arith, refl))
     (λ D d. require-refuses Bare (allNarrow (channels D)) Channel _ (λ e. (omega arith, refl))
     (require-refuses Bare (hasPath S D) Path _ (λ e. (omega arith, refl))
+    (require-refuses Bare (keepsSymbols S D) Symbols _ (λ e. (omega arith, refl))
     (require-refuses Bare (leb (c .count) 65536) Count _ (λ e. (omega arith, refl))
     (require-refuses Bare (roomFor c S D) Room _ (λ e. (omega arith, refl))
     (require-refuses Bare (takes (c .count) (heldBefore c D)) Full _ (λ e. (omega arith, refl))
-    (require-refuses Bare (leb (length (text c S D)) (length (c .output))) Room (passed S D) (λ e. (omega arith, refl)) tt))))))))
+    (require-refuses Bare (leb (length (text c S D)) (length (c .output))) Room (passed S D) (λ e. (omega arith, refl)) tt)))))))))
 
 module _ (c : Call) (a : Answer) (e : checks c ≡ refused a) where
   pub refused-bare : (1 ≤ numberOf a) × (valuesOf a .count ≡ 0)
@@ -92,10 +94,11 @@ checks-full c =
     (λ S s. sheet-refuses (Full-tells c) (sheetOf (c .readerSheet)) Destination _ (λ k n. absurd (omega (arith, n)))
     (λ D d. require-refuses (Full-tells c) (allNarrow (channels D)) Channel _ (λ e n. absurd (omega (arith, n)))
     (require-refuses (Full-tells c) (hasPath S D) Path _ (λ e n. absurd (omega (arith, n)))
+    (require-refuses (Full-tells c) (keepsSymbols S D) Symbols _ (λ e n. absurd (omega (arith, n)))
     (require-refuses (Full-tells c) (leb (c .count) 65536) Count _ (λ e n. absurd (omega (arith, n)))
     (require-refuses (Full-tells c) (roomFor c S D) Room _ (λ e n. absurd (omega (arith, n)))
     (require-refuses (Full-tells c) (takes (c .count) (heldBefore c D)) Full _ (λ e n. (D, d, e))
-    (require-refuses (Full-tells c) (leb (length (text c S D)) (length (c .output))) Room (passed S D) (λ e n. absurd (omega (arith, n))) tt))))))))
+    (require-refuses (Full-tells c) (leb (length (text c S D)) (length (c .output))) Room (passed S D) (λ e n. absurd (omega (arith, n))) tt)))))))))
 
 pub full-tells : (c : Call) → answerNumber c ≡ 11 → (D : Datatype) × (sheetOf (c .readerSheet) ≡ ofType D) × (takes (c .count) (heldBefore c D) ≡ false)
 full-tells c n = at (refused-or-passed (checks c))
@@ -113,6 +116,7 @@ pub record Passed (c : Call) (S D : Datatype) : Type 0 where
   pub types : Types c S D
   pub narrow : allNarrow (channels D) ≡ true
   pub path : hasPath S D ≡ true
+  pub symbols : keepsSymbols S D ≡ true
   pub count : leb (c .count) 65536 ≡ true
   pub room : roomFor c S D ≡ true
   pub takes : takes (c .count) (heldBefore c D) ≡ true
@@ -127,11 +131,12 @@ module _ (c : Call) (S D : Datatype) where
       let c₃ = sheet-read (sheetOf (c .readerSheet)) Destination _ (c₂ .2) in
       let c₄ = required (allNarrow (channels (c₃ .0))) Channel _ (c₃ .2) in
       let c₅ = required (hasPath (c₂ .0) (c₃ .0)) Path _ (c₄ .1) in
-      let c₆ = required (leb (c .count) 65536) Count _ (c₅ .1) in
-      let c₇ = required (roomFor c (c₂ .0) (c₃ .0)) Room _ (c₆ .1) in
-      let c₈ = required (takes (c .count) (heldBefore c (c₃ .0))) Full _ (c₇ .1) in
-      let c₉ = required (leb (length (text c (c₂ .0) (c₃ .0))) (length (c .output))) Room _ (c₈ .1) in
-      let p : passed (c₂ .0) (c₃ .0) ≡ passed S D = c₉ .1 in
+      let c₆ = required (keepsSymbols (c₂ .0) (c₃ .0)) Symbols _ (c₅ .1) in
+      let c₇ = required (leb (c .count) 65536) Count _ (c₆ .1) in
+      let c₈ = required (roomFor c (c₂ .0) (c₃ .0)) Room _ (c₇ .1) in
+      let c₉ = required (takes (c .count) (heldBefore c (c₃ .0))) Full _ (c₈ .1) in
+      let c₁₀ = required (leb (length (text c (c₂ .0) (c₃ .0))) (length (c .output))) Room _ (c₉ .1) in
+      let p : passed (c₂ .0) (c₃ .0) ≡ passed S D = c₁₀ .1 in
       let i : c₂ .0 ≡ S = cc in
       let j : c₃ .0 ≡ D = cc in
       subst₂ (Passed c) i j
@@ -140,15 +145,16 @@ module _ (c : Call) (S D : Datatype) where
         types = record { source = c₂ .1; reader = c₃ .1 };
         narrow = c₄ .0;
         path = c₅ .0;
-        count = c₆ .0;
-        room = c₇ .0;
-        takes = c₈ .0;
-        output = c₉ .0;
+        symbols = c₆ .0;
+        count = c₇ .0;
+        room = c₈ .0;
+        takes = c₉ .0;
+        output = c₁₀ .0;
       })
 
   pub tells-passed : Passed c S D → checks c ≡ passed S D
   unfolding checks
-  tells-passed w = rw (w .table, w .types .source, w .types .reader, w .narrow, w .path, w .count, w .room, w .takes, w .output)
+  tells-passed w = rw (w .table, w .types .source, w .types .reader, w .narrow, w .path, w .symbols, w .count, w .room, w .takes, w .output)
 
 -- a call that is done passes, with the types of its sheets
 pub done-passes : (c : Call) → IsDone c → (S : Datatype) × (D : Datatype) × (checks c ≡ passed S D)

@@ -24,6 +24,7 @@ module _ (c : Call) (S D : Datatype) (e : checks c ≡ passed S D) where
         source = w .types .source;
         destination = w .types .reader;
         path = w .path;
+        symbols = w .symbols;
         count = w .count;
         room = has-room c S D e;
       })

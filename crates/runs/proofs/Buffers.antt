@@ -6,7 +6,7 @@ use mathlib.Core.List.{List}
 use Prim.Native.Nat.{ℕ, _*_, _≤_}
 use lib.ListN.{length}
 use Rattle.answer.specs.declared.Answer.{Answer}
-use Rattle.answer.specs.declared.Answer.the-variants.{Done, Handling, Table, Source, Destination, Path, Count, Room, Stop, Range, Channel, Full}
+use Rattle.answer.specs.declared.Answer.the-variants.{Done, Handling, Table, Source, Destination, Path, Count, Room, Stop, Range, Channel, Full, Symbols}
 use Rattle.datatype.specs.Datatype.{Datatype, size}
 use Rattle.datatype.specs.WellFormed.{WellFormed}
 use Rattle.records.specs.Records.{readings, convertedRecords}
@@ -44,6 +44,7 @@ done-or-unchanged (Stop i b k g) new old = inr refl
 done-or-unchanged Range new old = inr refl
 done-or-unchanged Channel new old = inr refl
 done-or-unchanged Full new old = inr refl
+done-or-unchanged Symbols new old = inr refl
 
 module _ (r : Run) (S D : Datatype) (c : checks r ≡ passed S D) where
   pub answer-is : answer r ≡ answerFor r S D

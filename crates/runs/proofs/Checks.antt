@@ -11,10 +11,11 @@ use lib.ListN.{length}
 use borrow.Author.Tests.{leb-true, le-leb}
 use Rattle.answer.specs.declared.Answer.{Answer}
 use Rattle.answer.specs.declared.Given.{Given}
-use Rattle.answer.specs.declared.Answer.the-variants.{Done, Handling, Table, Source, Destination, Path, Count, Room, Stop, Range, Channel, Full}
+use Rattle.answer.specs.declared.Answer.the-variants.{Done, Handling, Table, Source, Destination, Path, Count, Room, Stop, Range, Channel, Full, Symbols}
 use Rattle.answer.specs.Answer.{numberOf, valuesOf}
 use Rattle.datatype.specs.Datatype.{Datatype, size}
 use Rattle.datatype.specs.Paths.{hasPath}
+use Rattle.datatype.specs.SymbolSets.{keepsSymbols}
 use Rattle.datatype.proofs.Tests.{and-true, both}
 use Rattle.sheet.specs.Sheet.{Sheet, sheetOf}
 use Rattle.sheet.specs.Sheet.Sheet.{ofType, faultyAt}
@@ -41,6 +42,7 @@ done-is (Stop i at kind given) e = no-number e
 done-is Range e = no-number e
 done-is Channel e = no-number e
 done-is Full e = no-number e
+done-is Symbols e = no-number e
 
 -- number 8 is STOP, with its fields
 pub stop-is : (a : Answer) → numberOf a ≡ 8 → (g : Given) × (a ≡ Stop (valuesOf a .«record») (valuesOf a .at) (valuesOf a .kind) g)
@@ -56,6 +58,7 @@ stop-is (Stop i at kind given) e = (given, refl)
 stop-is Range e = absurd (omega (arith, e))
 stop-is Channel e = absurd (omega (arith, e))
 stop-is Full e = absurd (omega (arith, e))
+stop-is Symbols e = absurd (omega (arith, e))
 
 -- ---- refused, or passed
 
@@ -84,6 +87,7 @@ pub record Passed (r : Run) (S D : Datatype) : Type 0 where
   pub source : sheetOf (r .sourceSheet) ≡ ofType S
   pub destination : sheetOf (r .destinationSheet) ≡ ofType D
   pub path : hasPath S D ≡ true
+  pub symbols : keepsSymbols S D ≡ true
   pub count : leb (r .count) 65536 ≡ true
   pub room : hasRoom (r .form) (r .count) (size S) (size D) (length (r .source)) (length (r .background)) ≡ true
 
@@ -96,16 +100,24 @@ module _ (r : Run) (S D : Datatype) where
       let c₃ = sheet-read (sheetOf (r .sourceSheet)) Source _ (c₂ .1) in
       let c₄ = sheet-read (sheetOf (r .destinationSheet)) Destination _ (c₃ .2) in
       let c₅ = required (hasPath (c₃ .0) (c₄ .0)) Path _ (c₄ .2) in
-      let c₆ = required (leb (r .count) 65536) Count _ (c₅ .1) in
-      let c₇ = required (hasRoom (r .form) (r .count) (size (c₃ .0)) (size (c₄ .0)) (length (r .source)) (length (r .background))) Room _ (c₆ .1) in
-      let p : passed (c₃ .0) (c₄ .0) ≡ passed S D = c₇ .1 in
+      let c₆ = required (keepsSymbols (c₃ .0) (c₄ .0)) Symbols _ (c₅ .1) in
+      let c₇ = required (leb (r .count) 65536) Count _ (c₆ .1) in
+      let c₈ = required (hasRoom (r .form) (r .count) (size (c₃ .0)) (size (c₄ .0)) (length (r .source)) (length (r .background))) Room _ (c₇ .1) in
+      let p : passed (c₃ .0) (c₄ .0) ≡ passed S D = c₈ .1 in
       let i : c₃ .0 ≡ S = cc in
       let j : c₄ .0 ≡ D = cc in
-      subst₂ (Passed r) i j (record { handling = c₁ .0; table = c₂ .0; source = c₃ .1; destination = c₄ .1; path = c₅ .0; count = c₆ .0; room = c₇ .0 })
+      subst₂ (Passed r) i j
+      (record { handling = c₁ .0; table = c₂ .0; source = c₃ .1; destination = c₄ .1; path = c₅ .0; symbols = c₆ .0; count = c₇ .0; room = c₈ .0 })
 
   pub tells-passed : Passed r S D → checks r ≡ passed S D
   unfolding checksOf
-  tells-passed w = rw (w .handling, w .table, w .source, w .destination, w .path, w .count, w .room)
+  tells-passed w = rw (w .handling, w .table, w .source, w .destination, w .path, w .symbols, w .count, w .room)
+
+  -- document 02, 2026-07: "Refuse it before any record", whatever the count and the buffers
+  pub symbols-refused : leb (r .handling) 1 ≡ true → leb 8192 (length (r .table)) ≡ true → sheetOf (r .sourceSheet) ≡ ofType S
+      → sheetOf (r .destinationSheet) ≡ ofType D → hasPath S D ≡ true → keepsSymbols S D ≡ false → checks r ≡ refused Symbols
+  unfolding checksOf
+  symbols-refused h t s d p k = rw (h, t, s, d, p, k)
 
 -- ---- room
 
@@ -137,23 +149,28 @@ module _ (P : Answer → Type 0) where
   sheet-refuses (ofType T) a f h g = g T refl
   sheet-refuses (faultyAt k) a f h g = h k
 
--- "Numbers of refusal, in the order of checks": those before STOP are 1 to 7
-abbrev Early : Answer → Type 0
-Early a = (1 ≤ numberOf a) × (numberOf a ≤ 7)
+-- "Numbers of refusal, in the order of checks": those before STOP are 1 to 7; document 02, 2026-07: "12 SYMBOLS, between PATH and COUNT"
+abbrev pub Early : ℕ → Type 0
+Early k = ((1 ≤ k) × (k ≤ 7)) ⊎ (k ≡ 12)
 
-checks-early : (r : Run) → Refusals Early (checks r)
+abbrev RefusedEarly : Answer → Type 0
+RefusedEarly a = Early (numberOf a)
+
+checks-early : (r : Run) → Refusals RefusedEarly (checks r)
 unfolding checksOf
 checks-early r =
-    require-refuses Early (leb (r .handling) 1) Handling _ (λ e. omega arith)
-    (require-refuses Early (leb 8192 (length (r .table))) Table _ (λ e. omega arith)
-    (sheet-refuses Early (sheetOf (r .sourceSheet)) Source _ (λ k. omega arith)
-    (λ S s. sheet-refuses Early (sheetOf (r .destinationSheet)) Destination _ (λ k. omega arith)
-    (λ D d. require-refuses Early (hasPath S D) Path _ (λ e. omega arith)
-    (require-refuses Early (leb (r .count) 65536) Count _ (λ e. omega arith)
-    (require-refuses Early (hasRoom (r .form) (r .count) (size S) (size D) (length (r .source)) (length (r .background))) Room (passed S D) (λ e. omega arith) tt))))))
+    require-refuses RefusedEarly (leb (r .handling) 1) Handling _ (λ e. inl (omega arith))
+    (require-refuses RefusedEarly (leb 8192 (length (r .table))) Table _ (λ e. inl (omega arith))
+    (sheet-refuses RefusedEarly (sheetOf (r .sourceSheet)) Source _ (λ k. inl (omega arith))
+    (λ S s. sheet-refuses RefusedEarly (sheetOf (r .destinationSheet)) Destination _ (λ k. inl (omega arith))
+    (λ D d. require-refuses RefusedEarly (hasPath S D) Path _ (λ e. inl (omega arith))
+    (require-refuses RefusedEarly (keepsSymbols S D) Symbols _ (λ e. inr refl)
+    (require-refuses RefusedEarly (leb (r .count) 65536) Count _ (λ e. inl (omega arith))
+    (require-refuses RefusedEarly (hasRoom (r .form) (r .count) (size S) (size D) (length (r .source)) (length (r .background))) Room (passed S D)
+    (λ e. inl (omega arith)) tt)))))))
 
-pub refused-early : (r : Run) (a : Answer) → checks r ≡ refused a → (1 ≤ numberOf a) × (numberOf a ≤ 7)
-refused-early r a e = subst (Refusals Early) e (checks-early r)
+pub refused-early : (r : Run) (a : Answer) → checks r ≡ refused a → Early (numberOf a)
+refused-early r a e = subst (Refusals RefusedEarly) e (checks-early r)
 
 -- ---- in place, and copying from a copy with the same background: only the room that is asked for differs
 
@@ -181,7 +198,8 @@ in-place-checks h ss ds n x y t =
     (sheet-alike (sheetOf ss) Source
     (λ S. sheet-alike (sheetOf ds) Destination
     (λ D. require-alike (hasPath S D) Path
-    (require-alike (leb n 65536) Count (at (size S) (size D) (passed S D)))))))
+    (require-alike (keepsSymbols S D) Symbols
+    (require-alike (leb n 65536) Count (at (size S) (size D) (passed S D))))))))
   where
     at : (s d : ℕ) (c : Checked) → RoomOr (require (hasRoom inPlace n s d x y) Room c) (require (hasRoom copying n s d x y) Room c)
     at s d c = go (hasRoom inPlace n s d x y) refl

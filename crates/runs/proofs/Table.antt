@@ -7,7 +7,7 @@ use native.Mathlib.Omega.{arith}
 use lib.ListN.{length, take, drop, replicate, length-append, length-drop, length-replicate}
 use lib.Seq.{take-at, drop-at, drop-drop}
 use Rattle.answer.specs.declared.Answer.{Answer}
-use Rattle.answer.specs.declared.Answer.the-variants.{Done, Handling, Table, Source, Destination, Path, Count, Room, Stop, Range, Channel, Full}
+use Rattle.answer.specs.declared.Answer.the-variants.{Done, Handling, Table, Source, Destination, Path, Count, Room, Stop, Range, Channel, Full, Symbols}
 use Rattle.answer.specs.Answer.{numberOf}
 use Rattle.runs.specs.Run.{cleared, tableAfter}
 
@@ -61,3 +61,4 @@ table-cases (Stop i at kind given) t = inr (inr (omega arith), refl)
 table-cases Range t = inr (inr (omega arith), refl)
 table-cases Channel t = inr (inr (omega arith), refl)
 table-cases Full t = inr (inr (omega arith), refl)
+table-cases Symbols t = inr (inr (omega arith), refl)

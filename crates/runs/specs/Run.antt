@@ -6,10 +6,11 @@ use Prim.Native.Nat.{ℕ, zero, suc, _*_, max}
 use lib.Dec.{leb}
 use lib.ListN.{length, drop, replicate}
 use Rattle.answer.specs.declared.Answer.{Answer}
-use Rattle.answer.specs.declared.Answer.the-variants.{Done, Handling, Table, Source, Destination, Path, Count, Room, Stop, Range, Channel, Full}
+use Rattle.answer.specs.declared.Answer.the-variants.{Done, Handling, Table, Source, Destination, Path, Count, Room, Stop, Range, Channel, Full, Symbols}
 use Rattle.datatype.specs.Datatype.{Datatype, size}
 use Rattle.datatype.specs.Symbols.{onSome}
 use Rattle.datatype.specs.Paths.{hasPath}
+use Rattle.datatype.specs.SymbolSets.{keepsSymbols}
 use Rattle.sheet.specs.Sheet.{Sheet, sheetOf}
 use Rattle.sheet.specs.Sheet.Sheet.{ofType, faultyAt}
 use Rattle.records.specs.Record.{Reading, kindAt, givenAt, firstRaising}
@@ -69,11 +70,14 @@ recordChecks form n source background S D =
     (require (hasRoom form n (size S) (size D) source background) Room
     (passed S D))
 
--- checks 5 to 7: the path between two types before them
+-- checks 5 and 12 before them: document 02, 2026-07: "12 SYMBOLS, between PATH and COUNT, for the converting forms and the report"
 abbrev pub typeChecks : Form → ℕ → ℕ → ℕ → Datatype → Datatype → Checked
-typeChecks form n source background S D = require (hasPath S D) Path (recordChecks form n source background S D)
+typeChecks form n source background S D =
+    require (hasPath S D) Path
+    (require (keepsSymbols S D) Symbols
+    (recordChecks form n source background S D))
 
--- checks 3 to 7: two sheets by their texts
+-- checks 3 to 7 and 12: two sheets by their texts
 abbrev pub sheetChecks : Form → List ℕ → List ℕ → ℕ → ℕ → ℕ → Checked
 sheetChecks form ss ds n source background =
     withSheet (sheetOf ss) Source (λ S. withSheet (sheetOf ds) Destination (typeChecks form n source background S))
@@ -138,6 +142,7 @@ ifDone (Stop i at kind given) new old = old
 ifDone Range new old = old
 ifDone Channel new old = old
 ifDone Full new old = old
+ifDone Symbols new old = old
 
 unfoldable pub after : Run → List ℕ
 after r =
@@ -166,6 +171,7 @@ tableAfter (Stop i at kind given) table = cleared table
 tableAfter Range table = cleared table
 tableAfter Channel table = cleared table
 tableAfter Full table = cleared table
+tableAfter Symbols table = cleared table
 
 -- ---- what each converting form promises
 

@@ -72,6 +72,12 @@ enum-told-8 c = search needs
 bare-requires-8 : tie.Need-bare-requires-8
 bare-requires-8 c κs = search needs
 
+enum-told-9 : tie.Need-enum-told-9
+enum-told-9 c = search needs
+
+bare-requires-9 : tie.Need-bare-requires-9
+bare-requires-9 c κs = search needs
+
 returns : tie.Need-returns
 returns c = cc
 
@@ -108,6 +114,9 @@ returns-11 c = search needs
 returns-12 : tie.Need-returns-12
 returns-12 c = search needs
 
+returns-13 : tie.Need-returns-13
+returns-13 c = search needs
+
 pub values-of-spec : {M : Type 1} → statement M
 values-of-spec =
     tie.close
@@ -135,6 +144,8 @@ values-of-spec =
     bare-requires-7
     enum-told-8
     bare-requires-8
+    enum-told-9
+    bare-requires-9
     returns
     returns-2
     returns-3
@@ -146,4 +157,5 @@ values-of-spec =
     returns-9
     returns-10
     returns-11
-    returns-12)
+    returns-12
+    returns-13)
