@@ -263,6 +263,10 @@ def check_conversions(page, text):
     for source, destination, path in rows(page, text, "| From | To | Path |"):
         refused = refusal(convert_copying, sheet(source), sheet(destination), 0, Handling.STOP, b"", bytearray())
         expect((refused is None) == (path == "yes") and (refused is None or refused.name == "PATH"), page, f"path from {source} to {destination}: {refused}")
+    for source, destination, lost in rows(page, text, "| From | To | Lost |"):
+        refused = refusal(convert_copying, sheet(source), sheet(destination), 0, Handling.STOP, b"", bytearray())
+        found = "none" if refused is None else (refused.name, refused.symbol)
+        expect(found == ("none" if lost == "none" else ("SYMBOLS", spans(lost)[0])), page, f"symbols of {source} in {destination}: {refused}")
     for source, destination, given, wanted, kind in rows(page, text, "| From | To | Bytes | Become | Kind |"):
         out = bytearray(len(data(wanted)))
         stopped = refusal(convert_copying, sheet(source), sheet(destination), 1, Handling.STOP, data(given), out)

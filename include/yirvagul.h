@@ -42,7 +42,8 @@ extern "C" {
 /* ---- what a call answers ---- */
 
 /* The number that each call returns: done, or the first check that fails. A refusal leaves the data buffers, the list, the report and the layout
- * unchanged. The checks stand in the order of their numbers; those of the report stand beside it. */
+ * unchanged. The checks stand in the order of their numbers, but for SYMBOLS, which stands between PATH and COUNT; the order is told beside each call that
+ * reads records. */
 enum {
     /* Done. */
     YIRVAGUL_DONE = 0,
@@ -73,7 +74,11 @@ enum {
     YIRVAGUL_CHANNEL = 10,
     /* The report would have more than 1,048,576 records; or its memory holds a negative number of records, exceptions or samples, or a word above 2^52 in
      * magnitude, which no report has that began with zeros. Begin a new one. */
-    YIRVAGUL_FULL = 11
+    YIRVAGUL_FULL = 11,
+    /* An enum of the source has a symbol that the destination's enum, or the reader's, under the same member lacks: its number would have no meaning there.
+     * It goes by the two sheets alone, by the names of the symbols and not their numbers, so a count of 0 is refused too. Enums of members that only one of
+     * the sheets has don't count, and neither does a symbol more in the destination. Give the destination's enum that symbol. */
+    YIRVAGUL_SYMBOLS = 12
 };
 
 /* The answer's eight words. Each call that reads sheets writes all of them; a word that the number does not name is 0. */
@@ -101,7 +106,7 @@ enum {
 enum {
     YIRVAGUL_ABOVE = 1,        /* the number is above the destination's range, or is +infinity: the largest is written */
     YIRVAGUL_BELOW = 2,        /* it is below it, or is -infinity: the smallest is written */
-    YIRVAGUL_NO_SYMBOL = 3,    /* an enum's number has no symbol, or its symbol is not in the destination: all significant bits are one */
+    YIRVAGUL_NO_SYMBOL = 3,    /* an enum's number has no symbol in the source: all significant bits are one */
     YIRVAGUL_NOT_A_NUMBER = 4, /* a real for an int is a not-a-number (NaN), quiet or signalling: 0 is written */
     YIRVAGUL_TRUNCATED = 5,    /* a real for an int has a fraction, or is a negative zero: the fraction is dropped toward zero, or the sign is */
     YIRVAGUL_ROUNDED = 6       /* an int for a real is no double: the nearest double is written, of two as near the even one */
@@ -124,6 +129,7 @@ static inline const char *yirvagul_name(uint32_t number) {
     case YIRVAGUL_RANGE: return "RANGE";
     case YIRVAGUL_CHANNEL: return "CHANNEL";
     case YIRVAGUL_FULL: return "FULL";
+    case YIRVAGUL_SYMBOLS: return "SYMBOLS";
     default: return "UNKNOWN";
     }
 }
@@ -138,7 +144,8 @@ enum {
 };
 
 /* Converts count records of source into destination. The destination's own bytes are the background: bits that no matched leaf fixes stay, and so do
- * pads that are `keep`. Bytes behind the count records stay. */
+ * pads that are `keep`. Bytes behind the count records stay. The checks, in this order, are HANDLING, TABLE, SOURCE, DESTINATION, PATH, SYMBOLS, COUNT, ROOM
+ * and STOP, for the four converting calls alike. */
 uint32_t yirvagul_convert_copying(const uint8_t *source_sheet, size_t source_sheet_len, const uint8_t *destination_sheet, size_t destination_sheet_len,
                                   uint64_t count, uint32_t handling, const uint8_t *source, size_t source_len, uint8_t *destination,
                                   size_t destination_len, uint32_t *table, size_t table_len, uint64_t answer[8]);
@@ -189,8 +196,8 @@ enum {
  * A log may be cut between records, anywhere: where no call is refused, memory and last output are the same. So a log of any length goes in parts.
  *
  * With L int leaves in the reader's sheet, the memory has at least 2 + 4 * L words; words behind them are neither read nor changed. The checks, in this
- * order, are TABLE, SOURCE, DESTINATION (the reader's sheet), CHANNEL, PATH, COUNT, ROOM (log, background, memory), FULL, ROOM (output). A refusal leaves
- * log, memory and output as they were. */
+ * order, are TABLE, SOURCE, DESTINATION (the reader's sheet), CHANNEL, PATH, SYMBOLS, COUNT, ROOM (log, background, memory), FULL, ROOM (output). A refusal
+ * leaves log, memory and output as they were. */
 uint32_t yirvagul_report(const uint8_t *source_sheet, size_t source_sheet_len, const uint8_t *reader_sheet, size_t reader_sheet_len, uint64_t count,
                          uint8_t *log, size_t log_len, const uint8_t *background, size_t background_len, int64_t *memory, size_t memory_len,
                          uint8_t *output, size_t output_len, uint32_t *table, size_t table_len, uint64_t answer[8]);
@@ -206,7 +213,8 @@ uint32_t yirvagul_report(const uint8_t *source_sheet, size_t source_sheet_len, c
 /* Lists where two logs of count records differ, each with a sheet of its own. Compared are the leaves of the second sheet that the first one matches, each
  * with the leaf that a conversion from the first sheet to the second would give it; nothing is converted:
  *   - ints and bits by their numbers, exactly, whatever their sizes, orders, offsets, precisions and signs;
- *   - enums by symbol. A number without a symbol equals only the same number without one, and differs from every number that has one;
+ *   - enums by symbol. A number without a symbol equals only the same number without one, and differs from every number that has one. A symbol that the
+ *     second sheet lacks differs from every number there: no comparison answers SYMBOLS;
  *   - a real and a real by their 64 bits: a not-a-number equals one of the same bits, and -0.0 differs from 0.0;
  *   - a real and an int by exact worth: -0.0 equals 0, and a fraction, an infinity or a not-a-number differs from every int.
  * Pads, gaps, and members that only one of the sheets has, are not looked at.

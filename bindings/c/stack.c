@@ -105,6 +105,17 @@ static void enum_array(Sheet *s, const char *base, int first, int symbols, int s
     numbered(s, "array\t%d\t%d", e, n);
 }
 
+/* Compounds of compounds over an enum, as deep as 64 types allow. The last has this size. */
+static void deep_enum(Sheet *s, int symbols, int size) {
+    int i, inner = numbered(s, "enum\t%d", type(s, BYTE), 0);
+    for (i = 0; i < symbols; i++) named(s, "value", i, i, -1);
+    while (s->types < 64) {
+        int outer = numbered(s, "comp\t%d", s->types == 63 ? size : 1, 0);
+        named(s, "member", 0, 0, inner);
+        inner = outer;
+    }
+}
+
 /* A compound of 62 enums of two far symbols each. */
 static void many_enums(Sheet *s, int far, int size) {
     int e, b = type(s, BYTE);
@@ -135,7 +146,7 @@ typedef struct {
     int is_wide; /* an int of the destination has more bits than a report takes */
 } Pair;
 
-static Pair pairs[32];
+static Pair pairs[40];
 static int pair_count;
 
 static Pair *pair(const char *name, int stops) {
@@ -160,8 +171,9 @@ static void make_pairs(void) {
     p = pair("compounds 63 deep, growing to 128", 1), deep_compounds(&p->from, SIGNED_BYTE, 1, 0, 64), deep_compounds(&p->to, PAIR, 2, 1, 128);
     p = pair("arrays and compounds 63 deep", 1), deep_mixed(&p->from, BYTE, 128), deep_mixed(&p->to, SIGNED_BYTE, 128);
     p = pair("1 byte of 4,096", 1), one_of_many(&p->from, BYTE, 127), one_of_many(&p->to, SIGNED_BYTE, 0);
-    p = pair("128 enums of 256 symbols", 1), enum_array(&p->from, BYTE, 0, 256, 1, 128), enum_array(&p->to, BYTE, 0, 255, 1, 128);
-    p = pair("16 enums of 256 far symbols", 1), enum_array(&p->from, WIDE, 0, 256, 8000000, 16), enum_array(&p->to, WIDE, 0, 255, 7000000, 16);
+    p = pair("128 enums of 256 symbols", 1), enum_array(&p->from, BYTE, 0, 255, 1, 128), enum_array(&p->to, BYTE, 0, 256, 1, 128);
+    p = pair("16 enums of 256 far symbols", 1), enum_array(&p->from, WIDE, 0, 256, 8000000, 16), enum_array(&p->to, WIDE, 0, 256, 7000000, 16);
+    p = pair("an enum 62 compounds deep", 1), deep_enum(&p->from, 100, 1), deep_enum(&p->to, 101, 128);
     p = pair("62 enums that differ", 1), many_enums(&p->from, 254, 62), many_enums(&p->to, 253, 62);
     p = pair("16 ints to doubles", 1), array_of(&p->from, WIDE, 16), array_of(&p->to, REAL, 16);
     p = pair("128 doubles to bytes", 1), array_of(&p->from, REAL, 128), array_of(&p->to, BYTE, 128);
@@ -174,8 +186,9 @@ static void make_pairs(void) {
     p = pair("compounds 63 deep in 4,096", 1), deep_compounds(&p->from, BYTE, 1, 0, 64), deep_compounds(&p->to, SIGNED_BYTE, 1, 1, 4096);
     p = pair("arrays and compounds 63 deep, 4,096", 1), deep_mixed(&p->from, BYTE, 4096), deep_mixed(&p->to, SIGNED_BYTE, 4096);
     p = pair("compounds of 4,096 leaves", 1), wide_compounds(&p->from, BYTE, 0), wide_compounds(&p->to, SIGNED_BYTE, 1);
-    p = pair("4,096 enums of 256 symbols", 1), enum_array(&p->from, BYTE, 0, 256, 1, 4096), enum_array(&p->to, BYTE, 0, 255, 1, 4096);
-    p = pair("512 enums of 256 far symbols", 1), enum_array(&p->from, WIDE, 0, 256, 8000000, 512), enum_array(&p->to, WIDE, 0, 255, 7000000, 512);
+    p = pair("4,096 enums of 256 symbols", 1), enum_array(&p->from, BYTE, 0, 255, 1, 4096), enum_array(&p->to, BYTE, 0, 256, 1, 4096);
+    p = pair("512 enums of 256 far symbols", 1), enum_array(&p->from, WIDE, 0, 256, 8000000, 512), enum_array(&p->to, WIDE, 0, 256, 7000000, 512);
+    p = pair("an enum 62 compounds deep in 4,096", 1), deep_enum(&p->from, 100, 1), deep_enum(&p->to, 101, 4096);
     p = pair("512 ints to doubles", 1), array_of(&p->from, WIDE, 512), array_of(&p->to, REAL, 512);
     p = pair("512 doubles of the other order", 0), array_of(&p->from, REAL, 512), array_of(&p->to, OTHER_REAL, 512);
     p = pair("62 enums that differ in 4,096", 1), many_enums(&p->from, 254, 62), many_enums(&p->to, 253, 4096);
@@ -453,6 +466,17 @@ static void test_no_path(const char *name, void (*deep)(Sheet *, const char *, i
     for (form = COPYING; form <= COMPARE; form++) expect(call((Form)form, name, &from, &to), YIRVAGUL_PATH, most);
 }
 
+/* Check 12, which a comparison has not. */
+static void test_lost_symbol(const char *name, int size, size_t most) {
+    static Sheet from, to;
+    int form;
+    memset(&from, 0, sizeof from);
+    memset(&to, 0, sizeof to);
+    deep_enum(&from, 101, 1);
+    deep_enum(&to, 100, size);
+    for (form = COPYING; form <= COMPARE; form++) expect(call((Form)form, name, &from, &to), form == COMPARE ? YIRVAGUL_DONE : YIRVAGUL_SYMBOLS, most);
+}
+
 static void test_setters(void) {
     static const Sheet none;
     static const uint32_t good[] = {3, 32, 1, 2, 1};
@@ -494,6 +518,8 @@ int main(int argc, char **argv) {
     }
     test_no_path("no path, 128", deep_arrays, 128, YIRVAGUL_SMALL_STACK_BYTES);
     test_no_path("no path, 4,096", deep_arrays, 4096, YIRVAGUL_STACK_BYTES);
+    test_lost_symbol("a lost symbol, 128", 128, YIRVAGUL_SMALL_STACK_BYTES);
+    test_lost_symbol("a lost symbol, 4,096", 4096, YIRVAGUL_STACK_BYTES);
     test_setters();
     return failed;
 }

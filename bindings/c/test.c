@@ -146,7 +146,7 @@ static void test_reals(void) {
 static void test_given(void) {
     static const char lowest[] = "\x80\0\0\0\0\0\0", most[] = "\xff\xff\xff\xff\xff\xff\xff\xff";
     static const char valve[] = SIGNED_BYTE "enum\t0\nvalue\topen\t0\nvalue\tajar\t9\nvalue\tshut\t-2\n";
-    static const char other[] = BYTE "enum\t0\nvalue\tshut\t9\nvalue\tlost\t7\nvalue\topen\t254\n";
+    static const char other[] = BYTE "enum\t0\nvalue\tshut\t9\nvalue\tlost\t7\nvalue\topen\t254\nvalue\tajar\t3\n";
     static const char boost[] = PAIR "array\t0\t3\ncomp\t6\nmember\tboost\t0\t1\n", bytes[] = BYTE "array\t0\t3\ncomp\t4\nmember\tboost\t1\t1\n";
     const uint64_t high = (uint64_t)1 << 63;
     uint8_t out[16], buffer[8];
@@ -160,7 +160,7 @@ static void test_given(void) {
                 "-2^63 + 1, to a real");
     expect_stop(copying(valve, other, 2, 1, "\0\7", 2, out, 8), 1, 0, YIRVAGUL_NO_SYMBOL, YIRVAGUL_GIVEN_PLUS, 7, "a number without a symbol");
     expect_stop(copying(valve, other, 2, 1, "\xfe\x80", 2, out, 8), 1, 0, YIRVAGUL_NO_SYMBOL, YIRVAGUL_GIVEN_MINUS, 128, "a negative one");
-    expect_stop(copying(valve, other, 1, 1, "\x09", 1, out, 8), 0, 0, YIRVAGUL_NO_SYMBOL, YIRVAGUL_GIVEN_PLUS, 9, "a symbol that is not there");
+    expect_stop(copying(valve, other, 1, 1, "\3", 1, out, 8), 0, 0, YIRVAGUL_NO_SYMBOL, YIRVAGUL_GIVEN_PLUS, 3, "a number with a symbol in the destination");
     expect_stop(copying(boost, bytes, 2, 1, "\0\1\0\2\0\3\0\4\x0f\xff\x01\0", 12, out, 8), 1, 2, YIRVAGUL_ABOVE, YIRVAGUL_GIVEN_PLUS, 4095,
                 "the first of two in a record");
     expect(out[0] == 0x77 && memcmp(out, out + 1, sizeof out - 1) == 0, "STOP leaves the destination");
@@ -169,6 +169,39 @@ static void test_given(void) {
                                           buffer, 8, out, 1, table, YIRVAGUL_TABLE_WORDS, answer),
                 0, 0, YIRVAGUL_BELOW, YIRVAGUL_GIVEN_MINUS, high, "-2^63, in place");
     expect(memcmp(buffer, lowest, 8) == 0, "STOP leaves the buffer");
+}
+
+/* A source symbol that the destination lacks, by the sheets alone: between PATH and COUNT, in every form; and no buffer is changed. */
+static void test_symbols(void) {
+    static const char valve[] = BYTE "enum\t0\nvalue\topen\t0\nvalue\tshut\t1\n", fewer[] = BYTE "enum\t0\nvalue\topen\t7\n";
+    static const char turned[] = BYTE "enum\t0\nvalue\tshut\t0\nvalue\topen\t1\n", none[] = BYTE "enum\t0\n";
+    static const char first[] = BYTE "enum\t0\nvalue\topen\t0\nvalue\tshut\t1\narray\t1\t2\ncomp\t2\nmember\tvalve\t0\t2\n";
+    static const char other[] = BYTE "enum\t0\nvalue\topen\t0\narray\t1\t2\ncomp\t2\nmember\tpump\t0\t2\n";
+    static const char nested[] = BYTE "enum\t0\nvalue\topen\t0\narray\t1\t2\ncomp\t2\nmember\tvalve\t0\t2\n";
+    static const char no_path[] = BYTE "enum\t0\nvalue\topen\t0\narray\t1\t3\ncomp\t3\nmember\tvalve\t0\t2\n";
+    const uint8_t *from = (const uint8_t *)valve, *to = (const uint8_t *)fewer;
+    uint8_t out[8];
+    memset(out, 0x77, sizeof out);
+    expect_answer(copying(valve, fewer, 1, 0, "\0", 1, out, 8), 12, 0, 0, 0, 0, 0, "SYMBOLS");
+    expect_answer(copying(valve, fewer, 1, 1, "\1", 1, out, 8), 12, 0, 0, 0, 0, 0, "SYMBOLS, before STOP");
+    expect_answer(copying(valve, fewer, 0, 0, "", 0, out, 8), 12, 0, 0, 0, 0, 0, "SYMBOLS of no record");
+    expect_answer(copying(valve, fewer, 65537, 0, "", 0, out, 8), 12, 0, 0, 0, 0, 0, "SYMBOLS before COUNT and ROOM");
+    expect_answer(copying(first, no_path, 1, 0, "\0", 1, out, 8), 5, 0, 0, 0, 0, 0, "PATH before SYMBOLS");
+    expect_answer(copying(first, nested, 1, 0, "\0\0", 2, out, 8), 12, 0, 0, 0, 0, 0, "SYMBOLS, in an array of a member");
+    expect_answer(yirvagul_convert_copying_plain(from, strlen(valve), to, strlen(fewer), 1, out, 1, out + 1, 1, table, YIRVAGUL_TABLE_WORDS, answer), 12, 0, 0,
+                  0, 0, 0, "SYMBOLS, plain");
+    expect_answer(yirvagul_convert_in_place(from, strlen(valve), to, strlen(fewer), 1, 0, out, 1, out + 1, 1, table, YIRVAGUL_TABLE_WORDS, answer), 12, 0, 0, 0,
+                  0, 0, "SYMBOLS, in place");
+    expect_answer(yirvagul_convert_in_place_plain(from, strlen(valve), to, strlen(fewer), 1, out, 1, out + 1, 1, table, YIRVAGUL_TABLE_WORDS, answer), 12, 0,
+                  0, 0, 0, 0, "SYMBOLS, in place and plain");
+    expect(out[0] == 0x77 && memcmp(out, out + 1, sizeof out - 1) == 0, "SYMBOLS leaves the buffers");
+    expect_answer(copying(first, other, 1, 0, "\0\0", 2, out, 8), 0, 0, 0, 0, 0, 0, "enums of members that one sheet alone has");
+    expect_answer(copying(none, fewer, 0, 0, "", 0, out, 8), 0, 0, 0, 0, 0, 0, "a source enum without values");
+    expect_answer(copying(fewer, valve, 1, 1, "\7", 1, out, 8), 0, 0, 0, 0, 0, 0, "more symbols in the destination");
+    expect_answer(copying(valve, turned, 2, 1, "\0\1", 2, out, 8), 0, 0, 0, 0, 0, 0, "the same symbols in another order");
+    expect_bytes(out, "\1\0", 2, "their numbers");
+    expect_answer(copying(turned, valve, 2, 1, "\1\0", 2, out, 8), 0, 0, 0, 0, 0, 0, "and the way back");
+    expect_bytes(out, "\0\1", 2, "their numbers again");
 }
 
 /* ---- the report */
@@ -208,6 +241,7 @@ static void expect_refused(const char *from, const char *reader, uint64_t count,
 }
 
 static void test_report(void) {
+    static const char valve[] = BYTE "enum\t0\nvalue\topen\t0\nvalue\tshut\t1\n", fewer[] = BYTE "enum\t0\nvalue\topen\t7\n";
     const int64_t most = (int64_t)1 << 52, limit = 1048576;
     int64_t memory[WORDS] = {0, 0, 0, 0, 0, 0, -7}, held[WORDS] = {1, 0, 5, 9, 14, 2, -7};
     uint8_t log[4] = {0, 200, 255, 255};
@@ -227,6 +261,8 @@ static void test_report(void) {
     expect_refused(BYTE, BYTE "x\n", 1, 1, held, WORDS, 100, YIRVAGUL_DESTINATION, 2, "DESTINATION, report");
     expect_refused(BITS, WIDE, 65537, 1, held, WORDS, 100, YIRVAGUL_CHANNEL, 0, "CHANNEL before PATH and COUNT");
     expect_refused(BITS, BYTE, 65537, 1, held, WORDS, 100, YIRVAGUL_PATH, 0, "PATH, report");
+    expect_refused(valve, fewer, 65537, 1, held, WORDS, 100, YIRVAGUL_SYMBOLS, 0, "SYMBOLS before COUNT, report");
+    expect_refused(valve, fewer, 0, 0, held, WORDS, 100, YIRVAGUL_SYMBOLS, 0, "SYMBOLS of no record, report");
     expect_refused(BYTE, BYTE, 65537, 1, held, WORDS, 100, YIRVAGUL_COUNT, 0, "COUNT, report");
     expect_refused(BYTE, BYTE, 2, 1, held, WORDS, 100, YIRVAGUL_ROOM, 0, "ROOM, a short log");
     expect_refused(BYTE, PAIR, 3, 3, held, WORDS, 100, YIRVAGUL_ROOM, 0, "ROOM, a log that grows");
@@ -311,6 +347,7 @@ static void test_compare(void) {
     expect_lines(valve, other, 4, "\0\xfe\7\x09", 4, "\xfe\0\7\x08", 4, "3\t0\t9\t8\n", "enums by symbol");
     expect_lines(valve, other, 2, "\0\xfe", 2, "\0\xfe", 2, "0\t0\t0\t0\n1\t0\t-2\t254\n", "enums of one number, two symbols");
     expect_pair(valve, other, "\0", 1, "\5", 1, "0\t0\t0\t5\n", "a symbol in the first alone");
+    expect_lines(valve, BYTE "enum\t0\nvalue\topen\t0\n", 3, "\0\xfe\7", 3, "\0\xfe\7", 3, "1\t0\t-2\t254\n", "a symbol that the second sheet lacks");
     expect_pair(REAL, REAL, "\x7f\xf8\0\0\0\0\0\1", 8, "\x7f\xf8\0\0\0\0\0\1", 8, "", "a not-a-number and itself");
     expect_pair(REAL, REAL, lowest, 8, "\0\0\0\0\0\0\0", 8, "0\t0\t9223372036854775808\t0\n", "-0.0 and 0.0");
     expect_pair(REAL, BYTE, lowest, 8, "\0", 1, "", "-0.0 and 0");
@@ -498,9 +535,10 @@ static void test_null(void) {
 }
 
 static void test_names(void) {
-    static const char *const names[] = {"DONE", "HANDLING", "TABLE", "SOURCE", "DESTINATION", "PATH", "COUNT", "ROOM", "STOP", "RANGE", "CHANNEL", "FULL"};
+    static const char *const names[] = {"DONE", "HANDLING", "TABLE", "SOURCE", "DESTINATION", "PATH", "COUNT", "ROOM", "STOP", "RANGE", "CHANNEL", "FULL",
+                                        "SYMBOLS"};
     uint32_t number;
-    for (number = 0; number <= YIRVAGUL_FULL; number++) expect(strcmp(yirvagul_name(number), names[number]) == 0, names[number]);
+    for (number = 0; number <= YIRVAGUL_SYMBOLS; number++) expect(strcmp(yirvagul_name(number), names[number]) == 0, names[number]);
     expect(strcmp(yirvagul_name(4294967295u), "UNKNOWN") == 0, "the name of a number that is none");
 }
 
@@ -513,6 +551,7 @@ int main(void) {
     test_in_place();
     test_reals();
     test_given();
+    test_symbols();
     test_report();
     test_largest_report();
     test_compare();

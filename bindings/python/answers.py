@@ -5,7 +5,7 @@ import struct
 import classroom
 from classroom import BYTE, converter, copied, expect, flips_that_show, leaves, marks, number, print_picture, replaced, sheet, significant_bits
 from classroom import stopped
-from yirvagul import Handling, Refusal, convert_copying
+from yirvagul import Handling, Refusal, compare, convert_copying
 
 
 def bit_0():
@@ -131,8 +131,22 @@ def two_ints_of_one_double():
         print(f"{number} -> {out.hex(' ')}, count {count}")
 
 
+def a_third_symbol():
+    two, three = (sheet(BYTE, "enum 0", "value open 0", "value shut 1", *more) for more in ((), ("value ajar 2",)))
+    for name, source, destination, log in (("there", two, three, "00 01"), ("back", three, two, "00 01"), ("back, no records", three, two, "")):
+        log = bytes.fromhex(log)
+        try:
+            out = copied(source, destination, len(log), log, bytes(len(log)))
+            print(f"{name}: {log.hex(' ')} -> {out}")
+        except Refusal as refused:
+            print(f"{name}: {refused.name} ({refused.number:d}), the symbol {refused.symbol}")
+    found = compare(three, two, bytes.fromhex("00 01 02"), bytes.fromhex("00 01 02"))
+    print("compared, 00 01 02 twice:", *(f"record {difference.record} differs, {difference.first} and {difference.second}" for difference in found))
+
+
 if __name__ == "__main__":
     bit_0()
-    for part in (another_record, minus_200, shrinking, kept_pads, all_ones, there_and_back, behind_the_stop, three_bytes, halves, two_ints_of_one_double):
+    first = (another_record, minus_200, shrinking, kept_pads, all_ones, there_and_back, behind_the_stop, three_bytes)
+    for part in (*first, halves, two_ints_of_one_double, a_third_symbol):
         print()
         part()

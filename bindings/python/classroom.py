@@ -158,6 +158,10 @@ def symbols():
     destination = sheet(BYTE, "enum 0", "value shut 0", "value open 1")
     log = bytes.fromhex("00 01 00")
     show(log, numbers_copied(log), copied(source, destination, 3, log, bytes(3)))
+    try:
+        copied(source + sheet("value ajar 2"), destination, 3, log, bytes(3))
+    except Refusal as refused:
+        print(f"       with a third symbol: {refused}")
 
 
 # ---- 6: the numbers 5, 6 and 300 into single bytes, with handling stop

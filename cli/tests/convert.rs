@@ -38,7 +38,7 @@ fn long(odd: &[usize]) -> Vec<u8> {
 
 const STOP: &str =
     "yirvagul: long.log: STOP (8): the number 7 for byte 0 of record 70000, member `valve`, \
-    has no symbol, or its symbol is not in the destination: complete the enums, or clamp\n";
+    has no symbol in the source: give it one in both enums, or clamp\n";
 
 #[test]
 fn the_example() {
@@ -252,6 +252,11 @@ fn refused_sheets() {
     folder
         .run("convert rig.sheet byte.sheet rig.log out.log")
         .said(3, "yirvagul: rig.sheet to byte.sheet: PATH (5): no path from the source type to the destination type: the record is a compound in the source and an int in the destination: give both the same class\n");
+    let few = String::from_utf8_lossy(CUSTOMER).replace("value\tshut\t0\n", "");
+    folder.write("few.sheet", few.as_bytes());
+    folder
+        .run("convert rig.sheet few.sheet rig.log out.log --clamp")
+        .said(3, "yirvagul: rig.sheet to few.sheet: SYMBOLS (12): `valve` has the symbol `shut` in the source and not in the destination: give the destination's enum that symbol, with a number of its own\n");
     // before the log is looked for
     assert_eq!(
         folder

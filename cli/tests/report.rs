@@ -125,6 +125,8 @@ fn a_refusal_leaves_the_season() {
         "bits.sheet",
         b"bits\t2\tLE\t0\t16\tzero\tzero\narray\t0\t3\ncomp\t6\nmember\tboost\t0\t1\n",
     );
+    let more = String::from_utf8_lossy(RIG).replace("value\tshut", "value\tajar\t7\nvalue\tshut");
+    folder.write("more.sheet", more.as_bytes());
     for (words, status, said) in [
         (
             "report customer.sheet rig.sheet rig.log long.log --season s",
@@ -145,6 +147,11 @@ fn a_refusal_leaves_the_season() {
             "report customer.sheet bits.sheet rig.log --season s",
             3,
             "bits.sheet to customer.sheet: PATH (5): no path from the source type to the destination type: `boost[0]` is bits in the source and an int in the destination: give both the same class",
+        ),
+        (
+            "report customer.sheet more.sheet rig.log --season s",
+            3,
+            "more.sheet to customer.sheet: SYMBOLS (12): `valve` has the symbol `ajar` in the source and not in the destination: give the destination's enum that symbol, with a number of its own",
         ),
         (
             "report rig.sheet rig.sheet rig.log --season s",

@@ -5,6 +5,7 @@ use crate::datatype::Datatype;
 use crate::number;
 use crate::paths::{self, Match};
 use crate::sheet;
+use crate::symbols;
 use std::rc::Rc;
 
 /// An answer: the number from the table with every field beside it.
@@ -149,7 +150,7 @@ fn after(call: Call, result: Result<Answer, Answer>, written: Vec<u8>) -> After 
     }
 }
 
-/// Checks 1 to 6.
+/// Checks 1 to 6, and 12.
 fn checked(call: &Call) -> Result<(Rc<Datatype>, Rc<Datatype>), Answer> {
     if let Some(handling) = call.handling
         && handling != 0
@@ -158,7 +159,7 @@ fn checked(call: &Call) -> Result<(Rc<Datatype>, Rc<Datatype>), Answer> {
         return Err(Answer::refused(1));
     }
     let (from, to) = read_sheets(call)?;
-    check_path_and_count(call, &from, &to)?;
+    check_types_and_count(call, &from, &to)?;
     Ok((from, to))
 }
 
@@ -172,15 +173,34 @@ pub fn read_sheets(call: &Call) -> Result<(Rc<Datatype>, Rc<Datatype>), Answer> 
     Ok((from, to))
 }
 
-/// Checks 5 and 6.
+/// Checks 5, 12 and 6: "12 SYMBOLS, between PATH and COUNT, for the converting
+/// forms and the report".
+pub fn check_types_and_count(call: &Call, from: &Datatype, to: &Datatype) -> Result<(), Answer> {
+    check_path(from, to)?;
+    if !symbols::keeps_symbols(from, to) {
+        return Err(Answer::refused(12));
+    }
+    check_count(call)
+}
+
+/// Checks 5 and 6: "The compare tool is not affected."
 pub fn check_path_and_count(call: &Call, from: &Datatype, to: &Datatype) -> Result<(), Answer> {
-    if !paths::has_path(from, to) {
-        return Err(Answer::refused(5));
+    check_path(from, to)?;
+    check_count(call)
+}
+
+fn check_path(from: &Datatype, to: &Datatype) -> Result<(), Answer> {
+    match paths::has_path(from, to) {
+        true => Ok(()),
+        false => Err(Answer::refused(5)),
     }
-    if call.count > 65_536 {
-        return Err(Answer::refused(6));
+}
+
+fn check_count(call: &Call) -> Result<(), Answer> {
+    match call.count > 65_536 {
+        true => Err(Answer::refused(6)),
+        false => Ok(()),
     }
-    Ok(())
 }
 
 /// nS and nD.

@@ -13,6 +13,7 @@ pub mod report;
 pub mod setters;
 pub mod sheet;
 pub mod size;
+pub mod symbols;
 
 #[cfg(test)]
 mod comparisons;
@@ -20,6 +21,8 @@ mod comparisons;
 mod exercises;
 #[cfg(test)]
 mod faults;
+#[cfg(test)]
+mod lost_symbols;
 #[cfg(test)]
 mod reals;
 #[cfg(test)]

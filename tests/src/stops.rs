@@ -47,12 +47,14 @@ fn both_ends_of_the_numbers() {
 #[test]
 fn an_enums_number_is_the_sources() {
     let from = format!("{SIGNED_BYTE}enum\t0\nvalue\topen\t0\nvalue\tshut\t-1\nvalue\tajar\t9\n");
-    let to = format!("{BYTE}enum\t0\nvalue\topen\t1\nvalue\tshut\t0\nvalue\tlost\t9\n");
-    // Two numbers without a symbol, and one whose symbol is not in the
-    // destination, though the number is.
+    let to =
+        format!("{BYTE}enum\t0\nvalue\tajar\t2\nvalue\topen\t1\nvalue\tshut\t0\nvalue\tlost\t5\n");
+    // Numbers without a symbol in the source; two of them have one in the
+    // destination.
     assert_eq!(stopped(&from, &to, "07"), (0, 7));
     assert_eq!(stopped(&from, &to, "80"), (1, 128));
-    assert_eq!(stopped(&from, &to, "09"), (0, 9));
+    assert_eq!(stopped(&from, &to, "01"), (0, 1));
+    assert_eq!(stopped(&from, &to, "05"), (0, 5));
     let none = format!("{SIGNED_64}enum\t0\n");
     assert_eq!(stopped(&none, &none, "00 00 00 00 00 00 00 00"), (0, 0));
     assert_eq!(stopped(&none, &to, "80 00 00 00 00 00 00 00"), (1, 1 << 63));

@@ -193,6 +193,7 @@ class Logs(SmallParts):
             (Number.SOURCE, "x\n", BYTE),
             (Number.DESTINATION, BYTE, "x\n"),
             (Number.PATH, BYTE, BITS),
+            (Number.SYMBOLS, BYTE + "enum\t0\nvalue\topen\t1\n", BYTE + "enum\t0\nvalue\tshut\t1\n"),
         ):
             for data in (b"", b"\x01\x02\x03\x04"):
                 check = lambda error: self.assertEqual(error.number, number)

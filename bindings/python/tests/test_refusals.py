@@ -59,6 +59,8 @@ def refuse(number):
         Layout(Class.INT, 2, Order.BE, 4, 12, Pad.ZERO, Pad.ZERO, Sign.UNSIGNED).set_field(53, 12)
     elif number == Number.CHANNEL:
         Report(WIDE)
+    elif number == Number.SYMBOLS:
+        yirvagul.convert_copying(RIG, CUSTOMER.replace("shut", "off"), 0, Handling.CLAMP, LOG, out)
     elif number == Number.FULL:
         Report(BYTE).add(BYTE, bytes(Report.MOST_RECORDS + 1))
 
@@ -86,14 +88,16 @@ WORDS = {
     Number.ROOM: "ROOM (7): the source is too short: it holds 16 bytes and needs 24; "
     "the destination is too short: it holds 14 bytes and needs 21: lend longer ones",
     Number.STOP: "STOP (8): the number 7 for byte 0 of record 1, member `valve`, "
-    "has no symbol, or its symbol is not in the destination: complete the enums, or clamp",
+    "has no symbol in the source: give it one in both enums, or clamp",
     Number.CHANNEL: "CHANNEL (10): `oil[0]` has 33 bits, and a report takes ints of at most 32: narrow it in the reader's sheet, or leave it out",
     Number.FULL: "FULL (11): the report would have 1,048,577 records or more, and it takes 1,048,576: begin a new report",
+    Number.SYMBOLS: "SYMBOLS (12): `valve` has the symbol `shut` in the source and not in the destination: "
+    "give the destination's enum that symbol, with a number of its own",
     Number.RANGE: "RANGE (9): offset 53 and precision 12 do not fit 8 bytes: keep the offset within 0 to 52",
 }
 
 FIELDS = ("number", "name", "sheet", "line", "text", "rule", "member", "count", "short")
-FIELDS += ("record", "at", "kind", "given", "given_bits", "precision", "answer", "args")
+FIELDS += ("record", "at", "kind", "given", "given_bits", "precision", "symbol", "answer", "args")
 
 
 def fields(refused):
@@ -120,10 +124,11 @@ class Messages(unittest.TestCase):
             Number.RANGE: {},
             Number.CHANNEL: {"member": "oil[0]", "precision": 33},
             Number.FULL: {"count": 1048577},
+            Number.SYMBOLS: {"member": "valve", "symbol": "shut"},
         }
         for number in NUMBERS:
             has = fields(refusal(number))
-            for name in ("line", "text", "member", "count", "record", "at", "kind", "given", "given_bits", "precision"):
+            for name in ("line", "text", "member", "count", "record", "at", "kind", "given", "given_bits", "precision", "symbol"):
                 self.assertEqual(has[name], told[number].get(name), (number, name))
             self.assertEqual(has["short"], told[number].get("short", ()))
 
@@ -165,14 +170,14 @@ class Messages(unittest.TestCase):
     def test_given_numbers(self):
         """Both ends of all numbers, and those of enums, which are the source's."""
         valve = SIGNED + "enum\t0\nvalue\topen\t0\nvalue\tajar\t9\nvalue\tshut\t-2\n"
-        other = BYTE + "enum\t0\nvalue\topen\t254\nvalue\tlost\t7\nvalue\tshut\t9\n"
+        other = BYTE + "enum\t0\nvalue\topen\t254\nvalue\tajar\t3\nvalue\tlost\t7\nvalue\tshut\t9\n"
         for source, destination, data, given in (
             (SIGNED_LONG, LONG, (-(1 << 63)).to_bytes(8, "big", signed=True), -(1 << 63)),
             (SIGNED_LONG, LONG, b"\xff" * 8, -1),
             (LONG, SIGNED_LONG, b"\xff" * 8, (1 << 64) - 1),
             (LONG, SIGNED_LONG, (1 << 63).to_bytes(8, "big"), 1 << 63),
             (valve, other, b"\x07", 7),
-            (valve, other, b"\x09", 9),
+            (valve, other, b"\x03", 3),
             (valve, other, b"\x80", -128),
         ):
             refused = self.stopped(source, destination, 1, data)
@@ -230,6 +235,11 @@ class Messages(unittest.TestCase):
             ),
             (Refusal(10), "CHANNEL (10): an int of the reader's sheet has more than 32 bits: narrow it, or leave it out"),
             (Refusal(11), "FULL (11): the report is full, or its memory holds what no report's does: begin a new report"),
+            (
+                Refusal(12),
+                "SYMBOLS (12): an enum has a symbol in the source and not in the destination: "
+                "give the destination's enum that symbol, with a number of its own",
+            ),
         ):
             self.assertEqual(str(refused), words)
 
@@ -240,13 +250,61 @@ class Messages(unittest.TestCase):
         self.assertEqual((refused.record, refused.at, refused.kind, refused.given, refused.member), (3, 8, Kind.ABOVE, -5, None))
         self.assertEqual(_explain.refusal((5, 0, 0, 0, 0, 0, 0, 0), new, new).rule, None)
         self.assertEqual(str(_explain.refusal((10, 0, 0, 0, 0, 0, 0, 0), new, new)), str(Refusal(10)))
+        self.assertEqual(str(_explain.refusal((12, 0, 0, 0, 0, 0, 0, 0), new, new)), str(Refusal(12)))
         same = BYTE.encode()
+        self.assertEqual(str(_explain.refusal((12, 0, 0, 0, 0, 0, 0, 0), same, same)), str(Refusal(12)))
         self.assertEqual(str(_explain.refusal((5, 0, 0, 0, 0, 0, 0, 0), same, same)), str(Refusal(5)))
+
+
+class Symbols(unittest.TestCase):
+    """A symbol that the destination lacks, in each call."""
+
+    FEWER = CUSTOMER.replace("value\tshut\t0\n", "")
+
+    def refused(self, call, *arguments):
+        with self.assertRaises(Refusal) as caught:
+            call(*arguments)
+        refused = caught.exception
+        self.assertEqual(refused.answer, (int(refused.number), 0, 0, 0, 0, 0, 0, 0))
+        return refused.number, refused.member, refused.symbol
+
+    def test_each_form(self):
+        lost = (Number.SYMBOLS, "valve", "shut")
+        for count in (0, 1, 65537, 1 << 63):
+            out, log = bytearray(b"x" * 8), bytearray(LOG)
+            self.assertEqual(self.refused(yirvagul.convert_copying, RIG, self.FEWER, count, Handling.STOP, LOG, out), lost)
+            self.assertEqual(self.refused(yirvagul.convert_copying_plain, RIG, self.FEWER, count, LOG, out), lost)
+            self.assertEqual(self.refused(yirvagul.convert_in_place, RIG, self.FEWER, count, Handling.CLAMP, log, LOG), lost)
+            self.assertEqual(self.refused(yirvagul.convert_in_place_plain, RIG, self.FEWER, count, log, LOG), lost)
+            self.assertEqual((out, log), (b"x" * 8, LOG))
+
+    def test_the_way_back_of_more_symbols(self):
+        out = bytearray(8)
+        self.assertEqual(yirvagul.convert_copying(self.FEWER, RIG, 1, Handling.STOP, b"\x01" + bytes(6), out), 0)
+        self.assertEqual(self.refused(yirvagul.convert_copying, RIG, self.FEWER, 1, Handling.STOP, out, bytearray(7))[0], Number.SYMBOLS)
+
+    def test_between_path_and_count(self):
+        other = self.FEWER.replace("array\t0\t3", "array\t0\t2")
+        self.assertEqual(self.refused(yirvagul.convert_copying_plain, RIG, other, 65537, LOG, bytearray(7))[0], Number.PATH)
+        self.assertEqual(self.refused(yirvagul.convert_copying_plain, self.FEWER, RIG, 65537, LOG, bytearray(7))[0], Number.COUNT)
+
+    def test_the_report(self):
+        report = Report(self.FEWER)
+        report.add(self.FEWER, b"\x01" + bytes(6))
+        before = report.to_bytes()
+        for log in (b"", LOG):
+            self.assertEqual(self.refused(report.add, RIG, log), (Number.SYMBOLS, "valve", "shut"))
+        self.assertEqual(report.to_bytes(), before)
+
+    def test_a_comparison_is_not_refused(self):
+        valves = BYTE + "enum\t0\nvalue\topen\t0\nvalue\tshut\t1\n"
+        found = yirvagul.compare(valves, valves.replace("value\tshut\t1\n", ""), b"\0\1\1", b"\0\1\0")
+        self.assertEqual([difference.record for difference in found], [1, 2])
 
 
 class FromANewerLibrary(unittest.TestCase):
     def test_numbers(self):
-        for number in (12, 15, 255, 1 << 32):
+        for number in (16, 255, 1 << 32):
             answer = (number, 0, 7, 0, 0, 0, 0, 0)
             refused = _explain.refusal(answer, BYTE.encode(), BYTE.encode(), count=1)
             self.assertEqual((refused.number, refused.name, refused.answer), (number, "UNKNOWN", answer))

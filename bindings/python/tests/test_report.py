@@ -125,7 +125,7 @@ class Results(unittest.TestCase):
                         matched[at] = number(expected, out, at) == number(expected, other, at)
                 summary = report.add(source, b"".join(records))
             except Refusal as refused:
-                self.assertIn(refused.number, (Number.CHANNEL, Number.PATH))
+                self.assertIn(refused.number, (Number.CHANNEL, Number.PATH, Number.SYMBOLS))
                 continue
             tried += 1
             self.assertEqual((summary.records, summary.exceptions), (5, exceptions))

@@ -266,11 +266,39 @@ class Reading(unittest.TestCase):
             except sheets.Fault:
                 continue
             except Refusal as refusal:
+                if refusal.number == Number.SYMBOLS:
+                    self.assertIsNone(found)
+                    continue
                 self.assertEqual(refusal.number, Number.PATH)
                 self.assertIsNotNone(found, (source, destination))
                 self.assertEqual((refusal.member, refusal.rule), found)
                 none += 1
         self.assertGreater(none, 300)
+
+    def test_same_symbols(self):
+        """Names of symbols dropped, renamed or left, where there is a path."""
+        rng, lost, kept = random.Random(4), 0, 0
+        for _ in range(1500):
+            source = random_sheet(rng)
+            if "value" not in source:
+                continue
+            lines = source.splitlines(keepends=True)
+            values = [at for at, line in enumerate(lines) if line.startswith("value")]
+            for at in rng.sample(values, rng.randint(0, min(2, len(values)))):
+                lines[at] = rng.choice(("", lines[at].replace("\t", "\tnew", 1)))
+            destination = "".join(lines)
+            types = sheets.read(source), sheets.read(destination)
+            found = sheets.lost_symbol(*types)
+            try:
+                yirvagul.convert_copying(source, destination, 0, Handling.STOP, b"", bytearray())
+                self.assertIsNone(found)
+                kept += 1
+            except Refusal as refusal:
+                self.assertEqual(refusal.number, Number.SYMBOLS)
+                self.assertEqual((refusal.member, refusal.symbol), found)
+                lost += 1
+        self.assertGreater(lost, 100)
+        self.assertGreater(kept, 100)
 
     def test_each_leaf_has_a_name_of_its_own(self):
         rng = random.Random(3)
@@ -320,6 +348,35 @@ class Names(unittest.TestCase):
             found(BYTE + runs, BITS + runs),
             ("runs[].a", "the source has an int, the destination a bits: give both the same class"),
         )
+
+    def test_the_symbol_that_a_destination_lacks(self):
+        def found(source, destination):
+            return sheets.lost_symbol(sheets.read(source), sheets.read(destination))
+
+        def states(*symbols):
+            return BYTE + "enum\t0\n" + "".join(f"value\t{symbol}\t{number}\n" for number, symbol in enumerate(symbols))
+
+        self.assertIsNone(found(RIG, CUSTOMER))
+        self.assertEqual(found(RIG, CUSTOMER.replace("shut", "Shut")), ("valve", "shut"))
+        # the record itself; the first by the source's values; sets in another order
+        self.assertEqual(found(states("open", "ajar", "shut"), states("open")), (None, "ajar"))
+        self.assertIsNone(found(states("open", "shut"), states("shut", "ajar", "open")))
+        # an enum without values
+        self.assertIsNone(found(states(), states()))
+        self.assertIsNone(found(states(), states("open")))
+        self.assertEqual(found(states("open"), states()), (None, "open"))
+        # two members lose one: the first by the destination's bytes, not by its lines
+        two = states("open", "shut") + "comp\t2\nmember\tvalve\t0\t1\nmember\tpump\t1\t1\n"
+        other = states("open") + "enum\t0\nvalue\tshut\t0\ncomp\t3\nmember\tvalve\t2\t1\nmember\tpump\t1\t2\n"
+        self.assertEqual(found(two, other), ("pump", "open"))
+        self.assertEqual(found(two, other.replace("valve\t2", "valve\t0")), ("valve", "shut"))
+        # nested, and in arrays
+        nested = "array\t1\t2\t3\ncomp\t7\nmember\tstate\t6\t0\nmember\tvalves\t0\t2\n"
+        nested += "array\t3\t4\ncomp\t28\nmember\tengine\t0\t4\n"
+        self.assertEqual(found(states("open", "shut") + nested, states("open") + nested), ("engine[].valves[]", "shut"))
+        # the enums of members that one sheet alone has
+        old, new = "comp\t2\nmember\told\t0\t1\nmember\tboost\t1\t0\n", "comp\t2\nmember\tboost\t0\t0\nmember\tnew\t1\t1\n"
+        self.assertIsNone(found(states("open", "shut") + old, states("open") + new))
 
 
 if __name__ == "__main__":

@@ -59,6 +59,10 @@ def refusal(
         destination = tree(destination_sheet)
         wide = sheets.wide_int(destination) if destination else None
         return Refusal(number, member=wide and wide.member, precision=wide and wide.precision, answer=answer)
+    if number == Number.SYMBOLS and destination_sheet is not None:
+        source, destination = tree(source_sheet), tree(destination_sheet)
+        lost = sheets.lost_symbol(source, destination) if source and destination else None
+        return Refusal(number, member=lost and lost.member, symbol=lost and lost.symbol, answer=answer)
     if number == Number.FULL:
         return Refusal(number, count=count, answer=answer)
     return Refusal(number, answer=answer)

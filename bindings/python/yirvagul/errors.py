@@ -24,6 +24,7 @@ class Number(enum.IntEnum):
     RANGE = 9
     CHANNEL = 10
     FULL = 11
+    SYMBOLS = 12
 
 
 class Kind(enum.IntEnum):
@@ -70,6 +71,7 @@ class Refusal(Exception):
     - RANGE: the `rule` that an argument or the layout breaks
     - CHANNEL: the `member` that is too wide for a report, and its `precision`, in bits
     - FULL: `count`, the number of records that the report would have
+    - SYMBOLS: the `symbol` that the destination's enum lacks, and the `member` whose enum it is
 
     A number or a kind that this version does not know is kept as it came: the name is then UNKNOWN, and `answer` has all words of the answer.
     A given number of a sort that it does not know is None, and stands there too.
@@ -92,6 +94,7 @@ class Refusal(Exception):
         given: Optional[int] = None,
         given_bits: Optional[int] = None,
         precision: Optional[int] = None,
+        symbol: Optional[str] = None,
         compared: bool = False,
         answer: Sequence[int] = (),
     ) -> None:
@@ -104,6 +107,7 @@ class Refusal(Exception):
         self.given_bits = given_bits
         self.given: Union[int, float, None] = given if given_bits is None else double(given_bits)
         self.precision = precision
+        self.symbol = symbol
         self.compared = compared
         self.answer = tuple(answer)
         said = _MESSAGES.get(int(number), _unknown)(self)
@@ -160,7 +164,7 @@ def double(bits: int) -> float:
 _WHY = {
     Kind.ABOVE: "is above the destination's range: widen the destination, or clamp",
     Kind.BELOW: "is below the destination's range: widen the destination, or clamp",
-    Kind.NO_SYMBOL: "has no symbol, or its symbol is not in the destination: complete the enums, or clamp",
+    Kind.NO_SYMBOL: "has no symbol in the source: give it one in both enums, or clamp",
     Kind.NOT_A_NUMBER: "is not-a-number, which no int holds: make the destination a real, or clamp",
     Kind.TRUNCATED: "has a fraction, or is a negative zero, which no int holds: make the destination a real, or clamp",
     Kind.ROUNDED: "is no double, only near one: make the destination an int, or clamp",
@@ -218,6 +222,14 @@ def _full(refused: Refusal) -> str:
     return f"the report would have {refused.count:,} records or more, and it takes 1,048,576: begin a new report"
 
 
+def _symbols(refused: Refusal) -> str:
+    remedy = "give the destination's enum that symbol, with a number of its own"
+    if refused.symbol is None:
+        return f"an enum has a symbol in the source and not in the destination: {remedy}"
+    which = "the record" if refused.member is None else quoted(refused.member)
+    return f"{which} has the symbol {quoted(refused.symbol)} in the source and not in the destination: {remedy}"
+
+
 def _unknown(refused: Refusal) -> str:
     words = f" (its answer is {' '.join(map(str, refused.answer))})" if refused.answer else ""
     return f"the library refused with a number that this version of yirvagul does not know{words}: take the version of the library"
@@ -235,4 +247,5 @@ _MESSAGES: dict[int, Callable[[Refusal], str]] = {
     Number.RANGE: _range,
     Number.CHANNEL: _channel,
     Number.FULL: _full,
+    Number.SYMBOLS: _symbols,
 }

@@ -1,5 +1,5 @@
-"""A reading of sheets in Python, for explanations: which rule a line breaks, which members have no path, whose byte a leaf's first byte is,
-which int is too wide for a report, which of two compared leaves is a real.
+"""A reading of sheets in Python, for explanations: which rule a line breaks, which members have no path, which symbol a destination lacks, whose byte a
+leaf's first byte is, which int is too wide for a report, which of two compared leaves is a real.
 
 It explains and never decides: what counts is the library's answer. Which numbers of two compared logs are a real's is found here, since the library's
 list does not say it.
@@ -460,10 +460,39 @@ def _wide_int(type_: Type, at: int) -> Optional[tuple[int, int]]:
     if isinstance(type_, Array):
         return _wide_int(type_.base, at)
     if isinstance(type_, Compound):
-        for member in sorted(type_.members, key=lambda member: member.at):
+        for member in _in_byte_order(type_):
             found = _wide_int(member.type, at + member.at)
             if found:
                 return found
+    return None
+
+
+def _in_byte_order(compound: Compound) -> list[Member]:
+    return sorted(compound.members, key=lambda member: member.at)
+
+
+class LostSymbol(NamedTuple):
+    """A symbol that a destination lacks, and the destination's member; None if it is the sheet's type itself."""
+
+    member: Optional[str]
+    symbol: str
+
+
+def lost_symbol(source: Type, destination: Type, way: str = "") -> Optional[LostSymbol]:
+    """The first one, in the order of the destination's bytes and then of the source's values. The elements of an array are all alike."""
+    if isinstance(source, Enum) and isinstance(destination, Enum):
+        names = {value.name for value in destination.values}
+        lost = next((value.name for value in source.values if value.name not in names), None)
+        return None if lost is None else LostSymbol(way or None, lost)
+    if isinstance(source, Array) and isinstance(destination, Array):
+        return lost_symbol(source.base, destination.base, f"{way}[]")
+    if isinstance(source, Compound) and isinstance(destination, Compound):
+        others = {other.name: other.type for other in source.members}
+        for member in _in_byte_order(destination):
+            if member.name in others:
+                found = lost_symbol(others[member.name], member.type, f"{way}.{member.name}" if way else member.name)
+                if found:
+                    return found
     return None
 
 

@@ -10,7 +10,7 @@ pub enum Kind {
     Above,
     /// It is below it, or is -infinity; clamping writes the smallest.
     Below,
-    /// An enum's number has no symbol, or its symbol is not in the destination; clamping sets all significant bits.
+    /// An enum's number has no symbol in the source; clamping sets all significant bits.
     NoSymbol,
     /// A real for an int is a not-a-number (NaN), quiet or signalling; clamping writes 0.
     NotANumber,
@@ -72,7 +72,7 @@ impl Kind {
         match self {
             Kind::Above => "is above the destination's range: widen the destination, or clamp".into(),
             Kind::Below => "is below the destination's range: widen the destination, or clamp".into(),
-            Kind::NoSymbol => "has no symbol, or its symbol is not in the destination: complete the enums, or clamp".into(),
+            Kind::NoSymbol => "has no symbol in the source: give it one in both enums, or clamp".into(),
             Kind::NotANumber => "is not-a-number, which no int holds: make the destination a real, or clamp".into(),
             Kind::Truncated => format!("{lost}, which no int holds: make the destination a real, or clamp"),
             Kind::Rounded => "is no double, only near one: make the destination an int, or clamp".into(),
@@ -275,6 +275,14 @@ pub enum Error {
         /// The records that it would have, with those of the log as far as it was read; none where its memory is at fault.
         records: Option<u64>,
     },
+    /// An enum of the source has a symbol that the destination's enum under the same member lacks. No comparison gives it.
+    #[non_exhaustive]
+    Symbols {
+        /// The first such symbol of the source's enum.
+        symbol: Option<String>,
+        /// The first such member, by the destination's bytes, as `valve[0]`; empty where the record itself is the enum.
+        member: Option<String>,
+    },
     /// A refusal that this version of the crate does not know.
     #[non_exhaustive]
     Unknown {
@@ -300,6 +308,7 @@ impl Error {
             Error::Range => 9,
             Error::Channel { .. } => 10,
             Error::Full { .. } => 11,
+            Error::Symbols { .. } => 12,
             Error::Unknown { number, .. } => *number,
         }
     }
@@ -318,6 +327,7 @@ impl Error {
             Error::Range => "RANGE",
             Error::Channel { .. } => "CHANNEL",
             Error::Full { .. } => "FULL",
+            Error::Symbols { .. } => "SYMBOLS",
             Error::Unknown { .. } => "UNKNOWN",
         }
     }
@@ -364,6 +374,10 @@ impl Error {
                 precision: None,
             },
             11 => Error::Full { records: None },
+            12 => Error::Symbols {
+                symbol: None,
+                member,
+            },
             _ => Error::Unknown {
                 number: number as u32,
                 answer,
@@ -435,6 +449,10 @@ impl fmt::Display for Error {
             Error::Channel { .. } => f.write_str("an int of the reader's sheet has more than 32 bits: narrow it, or leave it out"),
             Error::Full { records: Some(records) } => write!(f, "the report would have {records} records or more, and it takes 1,048,576: begin a new report"),
             Error::Full { .. } => f.write_str("the report is full, or its memory holds what no report's does: begin a new report"),
+            Error::Symbols { symbol: Some(symbol), member: Some(member) } => {
+                write!(f, "{} has the symbol `{symbol}` in the source and not in the destination: give the destination's enum that symbol, with a number of its own", named(member))
+            }
+            Error::Symbols { .. } => f.write_str("an enum has a symbol in the source and not in the destination: give the destination's enum that symbol, with a number of its own"),
             Error::Unknown { answer, .. } => write!(f, "a refusal that this version does not know, with the words {answer:?}: use a newer wrapper"),
         }
     }

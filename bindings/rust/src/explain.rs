@@ -96,6 +96,12 @@ pub(crate) fn outcome(answer: Answer, call: &Call, table: &mut [u32]) -> Result<
                 *precision = Some(bits);
             }
         }
+        Error::Symbols { symbol, member } => {
+            if let Some(found) = lost_symbol(call) {
+                *symbol = Some(found.symbol);
+                *member = Some(found.member);
+            }
+        }
         Error::Full { records } => {
             if let Call::Report(sheets, held) = call {
                 let all = u64::try_from(*held).ok().map(|held| held + sheets.count);
@@ -130,6 +136,11 @@ fn no_path(call: &Call) -> Option<sheet::NoPath> {
         ("source", "destination")
     };
     sheet::no_path(&source, &*destination(call)?, names)
+}
+
+fn lost_symbol(call: &Call) -> Option<sheet::LostSymbol> {
+    let source = sheet::read(call.source_sheet()).ok()?;
+    sheet::lost_symbol(&source, &*destination(call)?)
 }
 
 /// The first buffer that holds less than it needs.

@@ -1,6 +1,6 @@
-//! This crate's own reading of sheets. It explains what the library refused: the rule that a line breaks, where two types have no path, which leaf stands at a
-//! byte, which is too wide for a report. The library alone decides; where this reading comes to another place than the library, it explains nothing. It also
-//! says which numbers of two compared logs are the bits of a real, since the library's list does not.
+//! This crate's own reading of sheets. It explains what the library refused: the rule that a line breaks, where two types have no path, which symbol a
+//! destination lacks, which leaf stands at a byte, which is too wide for a report. The library alone decides; where this reading comes to another place than the
+//! library, it explains nothing. It also says which numbers of two compared logs are the bits of a real, since the library's list does not.
 use std::rc::Rc;
 
 const MOST_BYTES: usize = 16_384;
@@ -652,6 +652,57 @@ fn descend(source: &Type, destination: &Type, names: Names, way: &mut String) ->
     }
 }
 
+/// A symbol that a destination lacks: its name, and the member of the enums (empty for the record itself).
+#[derive(Debug, PartialEq)]
+pub(crate) struct LostSymbol {
+    pub symbol: String,
+    pub member: String,
+}
+
+/// The first one, in the order of the destination's bytes and then of the source's values.
+pub(crate) fn lost_symbol(source: &Type, destination: &Type) -> Option<LostSymbol> {
+    let mut way = String::new();
+    let symbol = find_lost(source, destination, &mut way)?;
+    Some(LostSymbol {
+        symbol,
+        member: way,
+    })
+}
+
+/// Goes down both types at once. Where a symbol is lost, the way stays at that place. The elements of an array are all alike.
+fn find_lost(source: &Type, destination: &Type, way: &mut String) -> Option<String> {
+    let len = way.len();
+    let found = match (&source.class, &destination.class) {
+        (Class::Enum { values, .. }, Class::Enum { values: others, .. }) => {
+            let lacks = |value: &&Value| others.iter().all(|other| other.name != value.name);
+            return values.iter().find(lacks).map(|value| shown(&value.name));
+        }
+        (Class::Comp { members: from }, Class::Comp { members }) => {
+            in_byte_order(members).into_iter().find_map(|member| {
+                let other = from.iter().find(|other| other.name == member.name)?;
+                way.truncate(len);
+                push_name(way, &member.name);
+                find_lost(&other.of, &member.of, way)
+            })
+        }
+        (Class::Array { base: from, .. }, Class::Array { base, dimensions }) => {
+            push_element(way, dimensions, 0);
+            find_lost(from, base, way)
+        }
+        _ => None,
+    };
+    if found.is_none() {
+        way.truncate(len);
+    }
+    found
+}
+
+fn in_byte_order(members: &[Member]) -> Vec<&Member> {
+    let mut members: Vec<&Member> = members.iter().collect();
+    members.sort_by_key(|member| member.at);
+    members
+}
+
 /// The name of the leaf that starts at a byte, as `boost[1]`; empty where the record itself is the leaf.
 pub(crate) fn leaf_at(record: &Type, at: u32) -> Option<String> {
     let (mut of, mut at, mut way) = (record, at, String::new());
@@ -718,10 +769,8 @@ fn find_wide(of: &Type, at: &mut u32) -> Option<u32> {
         Class::Bits | Class::Real | Class::Enum { .. } => None,
         Class::Array { base, .. } => find_wide(base, at),
         Class::Comp { members } => {
-            let mut members: Vec<&Member> = members.iter().collect();
-            members.sort_by_key(|member| member.at);
             let start = *at;
-            members.into_iter().find_map(|member| {
+            in_byte_order(members).into_iter().find_map(|member| {
                 *at = start + member.at;
                 find_wide(&member.of, at)
             })

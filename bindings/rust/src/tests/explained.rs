@@ -158,7 +158,7 @@ fn stop_names_the_leaf() {
     let valve = record(&symbols, 1, 1, "valve");
     assert_eq!(
         said(&valve, &valve, 1, &[7]),
-        "STOP (8): the number 7 for byte 0 of record 0, member `valve`, has no symbol, or its symbol is not in the destination: complete the enums, or clamp"
+        "STOP (8): the number 7 for byte 0 of record 0, member `valve`, has no symbol in the source: give it one in both enums, or clamp"
     );
 }
 
@@ -289,11 +289,11 @@ fn a_fault_that_the_library_places_elsewhere_is_not_explained() {
 
 #[test]
 fn unknown_numbers_and_kinds_are_said() {
-    let e = Error::from_answer([12, 0, 0, 0, 0, 0, 0, 0]);
-    assert_eq!((e.number(), e.name()), (12, "UNKNOWN"));
+    let e = Error::from_answer([16, 0, 0, 0, 0, 0, 0, 0]);
+    assert_eq!((e.number(), e.name()), (16, "UNKNOWN"));
     assert_eq!(
         e.to_string(),
-        "UNKNOWN (12): a refusal that this version does not know, with the words [12, 0, 0, 0, 0, 0, 0, 0]: use a newer wrapper"
+        "UNKNOWN (16): a refusal that this version does not know, with the words [16, 0, 0, 0, 0, 0, 0, 0]: use a newer wrapper"
     );
     let e = Error::from_answer([8, 0, 0, 2, 4, 7, 3, 99]);
     let Error::Stop { kind, given, .. } = e else {
@@ -316,7 +316,7 @@ fn kinds_by_themselves() {
     for (kind, text) in [
         (Kind::Above, "the number is above the destination's range"),
         (Kind::Below, "the number is below the destination's range"),
-        (Kind::NoSymbol, "the number has no symbol, or its symbol"),
+        (Kind::NoSymbol, "the number has no symbol in the source"),
         (Kind::NotANumber, "the real is not-a-number, which no int"),
         (Kind::Truncated, "the real has a fraction, or is a negative"),
         (Kind::Rounded, "the int is no double, only near one"),
@@ -347,6 +347,10 @@ fn all_other_texts() {
     assert_eq!(
         said(11),
         "FULL (11): the report is full, or its memory holds what no report's does: begin a new report"
+    );
+    assert_eq!(
+        said(12),
+        "SYMBOLS (12): an enum has a symbol in the source and not in the destination: give the destination's enum that symbol, with a number of its own"
     );
     assert_eq!(
         said(9),

@@ -4,6 +4,7 @@ mod compares;
 mod explained;
 mod reports;
 mod rules;
+mod symbols;
 
 const BYTE: &[u8] = b"int\t1\tLE\t0\t8\tzero\tzero\tunsigned\n";
 const SIGNED: &[u8] = b"int\t1\tLE\t0\t8\tzero\tzero\tsigned\n";

@@ -1,7 +1,7 @@
 //! Makes a sheet from another one: renamed, added, dropped and moved
 //! members, other layouts, other enums, other dimensions.
 
-use crate::generate::{add_value, atomic, new_name, order, place};
+use crate::generate::{add_value, atomic, new_name, new_number, order, place};
 use crate::model::{Line, Model, Row};
 use crate::random::Random;
 use independent::datatype::Atomic;
@@ -201,13 +201,15 @@ pub fn mend(random: &mut Random, model: &mut Model, own: usize) {
         Line::Enum { base, values } => {
             let (low, high) = model.range(*base);
             let mut kept: Values = Vec::new();
-            for (name, mut number) in values.drain(..) {
-                if number < low || number > high {
-                    number = random.number(low, high);
-                }
-                if kept.iter().all(|value| value.1 != number) {
-                    kept.push((name, number));
-                }
+            for (name, number) in values.drain(..) {
+                let fits =
+                    (low..=high).contains(&number) && kept.iter().all(|value| value.1 != number);
+                let number = match fits {
+                    true => Some(number),
+                    // The symbol stays, if there is a number for it.
+                    false => new_number(random, (low, high), &kept),
+                };
+                kept.extend(number.map(|number| (name, number)));
             }
             *values = kept;
         }

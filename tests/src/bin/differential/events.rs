@@ -3,10 +3,12 @@
 use crate::real_events;
 use crate::run::{Run, Seen};
 use crate::stop_events;
+use crate::symbol_events;
 use crate::tally::Tally;
 use independent::datatype::Datatype;
 use independent::paths;
 use independent::sheet;
+use independent::symbols::keeps_symbols;
 
 pub fn note(tally: &mut Tally, run: &Run, seen: &Seen) {
     let [number, count, line, record, at, kind, ..] = seen.answer;
@@ -33,6 +35,8 @@ pub fn note(tally: &mut Tally, run: &Run, seen: &Seen) {
         tally.saw("done of 65,536 records");
     }
     note_sizes(tally, run, number);
+    let sheets = (&run.source_sheet[..], &run.destination_sheet[..]);
+    symbol_events::note(tally, "", sheets, number, run.count);
     real_events::note(tally, run, number);
     note_pairs(tally, run);
 }
@@ -59,7 +63,7 @@ fn note_pairs(tally: &mut Tally, run: &Run) {
         sheet::read(&run.source_sheet),
         sheet::read(&run.destination_sheet),
     );
-    let mut refuses = [false; 8];
+    let mut refuses = [false; 13];
     refuses[1] = !run.form.is_plain() && run.handling > 1;
     refuses[2] = run.table.len() < 8192;
     refuses[3] = from.is_err();
@@ -67,6 +71,7 @@ fn note_pairs(tally: &mut Tally, run: &Run) {
     refuses[6] = run.count > 65_536;
     if let (Ok(from), Ok(to)) = (from, to) {
         refuses[5] = !paths::has_path(&from, &to);
+        refuses[12] = !keeps_symbols(&from, &to);
         if refuses[5] && reshaped(&from, &to) {
             tally.saw("arrays of one total and other dimensions");
         }
@@ -79,8 +84,8 @@ fn note_pairs(tally: &mut Tally, run: &Run) {
             |have: usize, size: u64| (have as u128) < u128::from(run.count) * u128::from(size);
         refuses[7] = short(run.first.len(), longer) || short(run.second.len(), to.size());
     }
-    for first in 1..8 {
-        for second in first + 1..8 {
+    for first in 1..13 {
+        for second in first + 1..13 {
             if refuses[first] && refuses[second] {
                 tally.saw(&format!("{first} and {second} at once"));
             }

@@ -155,7 +155,89 @@ fn unsigned(layout: Atomic) -> Line {
     })
 }
 
-/// Two enums that share some symbols, mostly with other numbers.
+/// Two sheets whose enums keep their symbols, have more of them or lose some; in
+/// members of their own, nested and in arrays, some of them unmatched.
+pub fn symbols(random: &mut Random) -> (Model, Model) {
+    let (mut from, mut to) = paired(random, |random, from, to| match random.below(8) {
+        0 => (
+            from.push(Line::Int(atomic(random, 2))),
+            to.push(Line::Int(atomic(random, 2))),
+        ),
+        _ => {
+            let pair = enums(random, from, to);
+            nested(random, pair, from, to)
+        }
+    });
+    for model in [&mut from, &mut to] {
+        if random.percent(30) {
+            add_unmatched(random, model);
+        }
+    }
+    if random.percent(6) {
+        // A member without a path beside them.
+        let member = |datatype| Row {
+            name: b"other".to_vec(),
+            at: 0,
+            datatype,
+        };
+        let layout = atomic(random, 2);
+        let own = from.insert(Line::Int(layout));
+        from.add_member(random, member(own));
+        let own = to.insert(unsigned(layout));
+        to.add_member(random, member(own));
+    }
+    (from, to)
+}
+
+/// An enum in an array, in a compound or by itself, in both sheets alike.
+fn nested(
+    random: &mut Random,
+    pair: (usize, usize),
+    from: &mut Model,
+    to: &mut Model,
+) -> (usize, usize) {
+    let choice = random.below(6);
+    let dimensions = vec![random.between(1, 2); random.between(1, 2) as usize];
+    let mut wrap = |model: &mut Model, datatype: usize| match choice {
+        0 => model.push(Line::Array {
+            base: datatype,
+            dimensions: dimensions.clone(),
+        }),
+        1 => {
+            let mut members = vec![Row {
+                name: b"valve".to_vec(),
+                at: 0,
+                datatype,
+            }];
+            let size = place(random, model, &mut members, 10);
+            model.push(Line::Comp { size, members })
+        }
+        _ => datatype,
+    };
+    (wrap(from, pair.0), wrap(to, pair.1))
+}
+
+/// One more enum, under a name that the other sheet seldom has.
+fn add_unmatched(random: &mut Random, model: &mut Model) {
+    let base = model.insert(Line::Int(atomic(random, 2)));
+    let mut values = Vec::new();
+    for _ in 0..random.between(1, 3) {
+        add_value(random, model.range(base), &mut values);
+    }
+    let datatype = model.insert(Line::Enum { base, values });
+    let name = new_name(random, |name| model.has_member(name));
+    model.add_member(
+        random,
+        Row {
+            name,
+            at: 0,
+            datatype,
+        },
+    );
+}
+
+/// Two enums, mostly with other numbers: of the same symbols, of more of them in
+/// the destination, or that share some.
 fn enums(random: &mut Random, from: &mut Model, to: &mut Model) -> (usize, usize) {
     let base = from.push(Line::Int(widest(random)));
     let mut values = Vec::new();
@@ -164,18 +246,24 @@ fn enums(random: &mut Random, from: &mut Model, to: &mut Model) -> (usize, usize
     }
     let other_base = to.push(Line::Int(wide(random)));
     let (low, high) = to.range(other_base);
+    let (kept, more) = *random.pick(&[(100, 0), (100, 0), (100, 2), (100, 2), (60, 2)]);
     let mut others: Vec<(Name, i128)> = Vec::new();
     for (name, number) in &values {
-        let number = match random.percent(30) {
-            true => (*number).clamp(low, high),
-            false => random.number(low, high),
-        };
-        let is_new = others.iter().all(|value| value.1 != number);
-        if is_new && random.percent(60) {
-            others.push((name.clone(), number));
+        if !random.percent(kept) {
+            continue;
         }
+        let same = (*number).clamp(low, high);
+        let number = match random.percent(30) {
+            true => Some(same).filter(|same| others.iter().all(|value| value.1 != *same)),
+            false => None,
+        };
+        let number = number.or_else(|| new_number(random, (low, high), &others));
+        others.extend(number.map(|number| (name.clone(), number)));
     }
-    for _ in 0..random.below(3) {
+    if random.percent(50) {
+        random.shuffle(&mut others);
+    }
+    for _ in 0..random.between(0, more) {
         add_value(random, (low, high), &mut others);
     }
     let first = from.push(Line::Enum { base, values });
@@ -184,6 +272,16 @@ fn enums(random: &mut Random, from: &mut Model, to: &mut Model) -> (usize, usize
         values: others,
     });
     (first, second)
+}
+
+/// A number of a range that no value has, if one is easily found.
+pub fn new_number(
+    random: &mut Random,
+    (low, high): (i128, i128),
+    values: &[(Name, i128)],
+) -> Option<i128> {
+    let is_new = |number: &i128| values.iter().all(|value| value.1 != *number);
+    (0..12).map(|_| random.number(low, high)).find(is_new)
 }
 
 /// Two compounds of members under the same names; `pair` makes the types of a
@@ -206,7 +304,7 @@ fn paired(
         }
     }
     for (model, mut rows) in [(&mut from, members), (&mut to, others)] {
-        let size = place(random, model, &mut rows, 80);
+        let size = place(random, model, &mut rows, 320);
         model.push(Line::Comp {
             size,
             members: rows,

@@ -33,6 +33,8 @@ mod run;
 mod sizes;
 mod stop_events;
 mod stops;
+mod symbol_events;
+mod symbols;
 mod tally;
 mod watch;
 
@@ -40,7 +42,7 @@ use random::Random;
 use tally::Tally;
 
 const SEED: u64 = 20_260_101;
-const CASES: u64 = 82_000;
+const CASES: u64 = 85_000;
 
 #[derive(Default)]
 pub struct Options {
@@ -118,7 +120,7 @@ fn run_cases(options: &Options) -> bool {
 }
 
 fn run_case(random: &mut Random, tally: &mut Tally) -> Result<(), String> {
-    let choice = random.below(1490);
+    let choice = random.below(1540);
     let (kind, result) = match choice {
         0 => (
             "conversion of 65,536 records",
@@ -166,7 +168,8 @@ fn run_case(random: &mut Random, tally: &mut Tally) -> Result<(), String> {
             "comparison with many refusals",
             compares::case(random, tally, 25),
         ),
-        _ => ("comparison's laws", compare_laws::case(random, tally)),
+        1460..=1489 => ("comparison's laws", compare_laws::case(random, tally)),
+        _ => ("symbols", symbols::case(random, tally)),
     };
     tally.saw(&format!("case: {kind}"));
     result.map_err(|fault| format!("({kind}) {fault}"))

@@ -1,5 +1,7 @@
 //! Sheets as the generator holds them: the lines' fields, not yet text.
 
+use crate::generate::place;
+use crate::random::Random;
 use independent::datatype::{Atomic, Order, Pad};
 use independent::number;
 
@@ -43,6 +45,35 @@ impl Model {
     pub fn push(&mut self, line: Line) -> usize {
         self.types.push(line);
         self.types.len() - 1
+    }
+
+    /// Puts a type straight before the last one, which no other type uses; its
+    /// number.
+    pub fn insert(&mut self, line: Line) -> usize {
+        let last = self.types.pop().expect("a sheet has a type");
+        let own = self.push(line);
+        self.types.push(last);
+        own
+    }
+
+    /// Whether the last type is a compound with such a member.
+    pub fn has_member(&self, name: &[u8]) -> bool {
+        match self.types.last() {
+            Some(Line::Comp { members, .. }) => members.iter().any(|row| row.name == name),
+            _ => false,
+        }
+    }
+
+    /// Adds a member to the last type, a compound, and places all of them anew.
+    pub fn add_member(&mut self, random: &mut Random, row: Row) {
+        let Some(Line::Comp { members, .. }) = self.types.last() else {
+            unreachable!("the last type is a compound");
+        };
+        let mut members = members.clone();
+        members.push(row);
+        let size = place(random, self, &mut members, 400);
+        self.types.pop();
+        self.types.push(Line::Comp { size, members });
     }
 
     /// In bytes. Saturates where the sheet is not valid.

@@ -7,13 +7,15 @@ use crate::random::Random;
 use crate::records::{fitting, put, records, with_other_free_bits};
 use crate::run::{self, FORMS, Form, Run, Seen, tell};
 use crate::sizes;
+use crate::symbol_events::is_turned;
 use crate::tally::Tally;
 use independent::call::part;
 use independent::datatype::Datatype;
 use independent::number;
 use independent::paths::Match;
+use independent::symbols::keeps_symbols;
 
-/// A run that passes every check before STOP, with what it is about.
+/// A run that passes every check before STOP but SYMBOLS, with what it is about.
 struct Setting<'a> {
     run: Run,
     from: &'a Datatype,
@@ -25,18 +27,23 @@ pub fn case(random: &mut Random, tally: &mut Tally) -> Result<(), String> {
     refused_case(random, tally)?;
     let model = convert::model(random);
     let (from, to) = (model.text(), derive(random, &model).text());
+    hold(random, tally, &from, &to)
+}
+
+/// All of them between two sheets, if there is a path.
+pub fn hold(random: &mut Random, tally: &mut Tally, from: &[u8], to: &[u8]) -> Result<(), String> {
     let words = 8192 + random.below(3) as usize;
     let table = random.words(words);
-    sizes::of_sheet(random, tally, &from, &table)?;
-    sizes::of_sheet(random, tally, &to, &table)?;
-    let tested = with_types(&from, &to, |datatype, other, matches| {
+    sizes::of_sheet(random, tally, from, &table)?;
+    sizes::of_sheet(random, tally, to, &table)?;
+    let tested = with_types(from, to, |datatype, other, matches| {
         let count = random
             .between(1, 1500 / (matches.len() as u64 + 1) + 1)
             .min(12);
         let run = Run {
             form: Form::Copying,
-            source_sheet: from.clone(),
-            destination_sheet: to.clone(),
+            source_sheet: from.to_vec(),
+            destination_sheet: to.to_vec(),
             count,
             handling: random.below(2) as u32,
             first: records(random, datatype.size(), count, matches),
@@ -141,8 +148,10 @@ fn free_bytes_do_not_show(
     if seen.answer[0] == 0 {
         let same = seen.written[..end] == again.written[..end];
         check(same, "free bytes show in the converted bytes", &other)?;
-    } else {
+    } else if seen.answer[0] == 8 {
         tally.saw("property: free bytes do not show under STOP");
+    } else {
+        tally.saw("property: data bytes do not show in SYMBOLS");
     }
     tally.saw("property: free bytes do not show");
     Ok(())
@@ -156,10 +165,15 @@ fn clean(random: &mut Random, setting: &Setting) -> Result<Option<(Run, Seen)>, 
     Ok((seen.answer[..2] == [0, 0]).then_some((run, seen)))
 }
 
+/// "Converting back is now claimed only where matched enums have equal symbol
+/// sets"; where a destination has more symbols, the way back is refused.
 fn way_back(random: &mut Random, tally: &mut Tally, setting: &Setting) -> Result<(), String> {
-    let Some((run, seen)) = clean(random, setting)? else {
+    let form = *random.pick(&FORMS);
+    let run = setting.formed(random, form);
+    let seen = run::both(random, &run)?;
+    if seen.answer[0] != 0 {
         return Ok(());
-    };
+    }
     let (from, to, count) = (setting.from.size(), setting.to.size(), run.count);
     let mut back = run.clone();
     back.form = *random.pick(&FORMS);
@@ -171,6 +185,15 @@ fn way_back(random: &mut Random, tally: &mut Tally, setting: &Setting) -> Result
     }
     back.second = random.bytes((from * count) as usize);
     let returned = run::both(random, &back)?;
+    if !keeps_symbols(setting.to, setting.from) {
+        let is_refused = returned.answer[0] == 12;
+        check(is_refused, "the way back loses a symbol", &back)?;
+        tally.saw("property: the way back is refused where the destination has more symbols");
+        return Ok(());
+    }
+    if seen.answer[1] != 0 {
+        return Ok(());
+    }
     check(
         returned.answer[..2] == [0, 0],
         "the way back raises an exception",
@@ -187,6 +210,9 @@ fn way_back(random: &mut Random, tally: &mut Tally, setting: &Setting) -> Result
         }
     }
     tally.saw("property: the way back");
+    if is_turned(setting.matches) {
+        tally.saw("property: the way back, equal sets of other order and numbers");
+    }
     Ok(())
 }
 
@@ -226,7 +252,7 @@ fn refused_case(random: &mut Random, tally: &mut Tally) -> Result<(), String> {
     let run = convert::make(random, 20, from, to);
     let seen = run::both(random, &run)?;
     sizes::of_run(random, tally, &run)?;
-    if !(1..=7).contains(&seen.answer[0]) {
+    if seen.answer[0] == 0 || seen.answer[0] == 8 {
         return Ok(());
     }
     let mut other = run.clone();

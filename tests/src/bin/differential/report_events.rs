@@ -3,6 +3,7 @@
 use crate::held::MOST;
 use crate::real_events;
 use crate::report_run::{ReportRun, ReportSeen, expected};
+use crate::symbol_events;
 use crate::tally::Tally;
 use independent::datatype::Datatype;
 use independent::number;
@@ -11,6 +12,7 @@ use independent::report::{
     EXCEPTIONS, LEAF_WORDS, LEAVES, MOST_RECORDS, RECORDS, SAMPLES, int_leaves, is_full, words,
 };
 use independent::sheet;
+use independent::symbols::keeps_symbols;
 
 pub fn note(tally: &mut Tally, run: &ReportRun, seen: &ReportSeen) {
     tally.answer("report", seen.answer[0]);
@@ -23,6 +25,8 @@ pub fn note(tally: &mut Tally, run: &ReportRun, seen: &ReportSeen) {
         return;
     };
     note_pairs(tally, run, Some(from), Some(to));
+    let sheets = (&run.source_sheet[..], &run.reader_sheet[..]);
+    symbol_events::note(tally, "report ", sheets, seen.answer[0], run.count);
     match seen.answer[0] {
         0 => {
             note_done(tally, run, seen);
@@ -143,6 +147,7 @@ fn note_pairs(tally: &mut Tally, run: &ReportRun, from: Option<&Datatype>, to: O
         refuses.push((10, !leaves.is_empty()));
         if let Some(from) = from {
             refuses.push((5, !paths::has_path(from, to)));
+            refuses.push((12, !keeps_symbols(from, to)));
             let short =
                 |have: usize, size: u64| (have as u128) < u128::from(run.count) * u128::from(size);
             let is_short = short(run.log.len(), from.size().max(to.size()))

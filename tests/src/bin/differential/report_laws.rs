@@ -12,6 +12,7 @@ use crate::report_run::{ReportRun, ReportSeen, both, tell};
 use crate::reports::{make, models, reader_of};
 use crate::tally::Tally;
 use independent::report::{MOST_RECORDS, RECORDS, int_leaves, words};
+use independent::symbols::keeps_symbols;
 use std::ops::Range;
 
 pub fn case(random: &mut Random, tally: &mut Tally) -> Result<(), String> {
@@ -38,13 +39,13 @@ struct Log {
 }
 
 impl Log {
-    /// None where there is no path.
+    /// None where there is no path, or a symbol would be lost.
     fn new(random: &mut Random, source: &Model, reader: &Model) -> Option<Log> {
         let (source_sheet, reader_sheet) = (source.text(), reader.text());
         let made = with_types(&source_sheet, &reader_sheet, |from, to, matches| {
             let most = 1500 / (matches.len() as u64 + 1) + 1;
             let count = random.between(0, most.min(12));
-            Log {
+            keeps_symbols(from, to).then(|| Log {
                 from: from.size() as usize,
                 to: to.size() as usize,
                 leaves: int_leaves(to).len(),
@@ -53,9 +54,9 @@ impl Log {
                 background: random.bytes((to.size() * count) as usize),
                 source_sheet: Vec::new(),
                 reader_sheet: Vec::new(),
-            }
+            })
         });
-        made.map(|log| Log {
+        made.flatten().map(|log| Log {
             source_sheet,
             reader_sheet,
             ..log

@@ -52,7 +52,7 @@ pub fn long_case(random: &mut Random, tally: &mut Tally) -> Result<(), String> {
     finish(random, tally, &run)
 }
 
-fn finish(random: &mut Random, tally: &mut Tally, run: &ReportRun) -> Result<(), String> {
+pub fn finish(random: &mut Random, tally: &mut Tally, run: &ReportRun) -> Result<(), String> {
     let seen = report_run::both(random, run)?;
     report_events::note(tally, run, &seen);
     Ok(())

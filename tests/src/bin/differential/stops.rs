@@ -76,8 +76,8 @@ fn one(random: &mut Random, pair: &Match) -> i128 {
             };
             i128::from(bits)
         }
-        (Datatype::Enum { values, .. }, _) if !values.is_empty() && random.percent(30) => {
-            // Its symbol may be in one of the two only.
+        (_, Datatype::Enum { values, .. }) if !values.is_empty() && random.percent(30) => {
+            // It has a symbol in the destination, and none in the source.
             random.pick(values).number
         }
         (_, Datatype::Real(_)) if random.percent(40) => near_tie(random),

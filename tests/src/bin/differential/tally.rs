@@ -6,6 +6,7 @@ use crate::fields;
 use crate::real_events;
 use crate::run::{FORMS, Form};
 use crate::stop_events;
+use crate::symbol_events;
 use std::collections::BTreeMap;
 
 #[derive(Default)]
@@ -142,6 +143,7 @@ impl Tally {
             &fields::NEEDED,
             &stop_events::NEEDED,
             &compare_events::NEEDED,
+            &symbol_events::NEEDED,
         ];
         let all = lists.iter().flat_map(|list| list.iter());
         let mut needed: Vec<String> = all.map(|what| what.to_string()).collect();
@@ -161,11 +163,11 @@ fn answers() -> Vec<String> {
     };
     for form in FORMS {
         match form {
-            Form::Copying | Form::InPlace => add(form.name(), &[0, 1, 2, 3, 4, 5, 6, 7, 8]),
-            _ => add(form.name(), &[0, 2, 3, 4, 5, 6, 7]),
+            Form::Copying | Form::InPlace => add(form.name(), &[0, 1, 2, 3, 4, 5, 6, 7, 8, 12]),
+            _ => add(form.name(), &[0, 2, 3, 4, 5, 6, 7, 12]),
         }
     }
-    add("report", &[0, 2, 3, 4, 5, 6, 7, 10, 11]);
+    add("report", &[0, 2, 3, 4, 5, 6, 7, 10, 11, 12]);
     add("compare", &[0, 2, 3, 4, 5, 6, 7]);
     add("leaf list", &[0, 2, 3, 7]);
     add("record size", &[0, 2, 3]);
