@@ -87,7 +87,7 @@ way-keeps (element {es = es} {ds = ds} {S = S} {T = T} k q h t) e = way-keeps t 
 -- ---- and no other
 
 -- a source without members has none of these names
-none-found : (ms : Members) → keepsIn empty ms ≡ true
+pub none-found : (ms : Members) → keepsIn empty ms ≡ true
 unfolding memberNamed keepsSymbols
 none-found empty = refl
 none-found (member x o T ms) = none-found ms

@@ -28,7 +28,7 @@ use Rattle.table.proofs.Lookups.{symbol-numbered}
 use Rattle.records.specs.Leaf.{numberIn, symbols, realBits}
 use Rattle.plans.specs.declared.PlanEntry.{PlanEntry}
 use Rattle.plans.specs.PlanWords.{leafOfType, symbolRows, isReal}
-use Rattle.plans.proofs.LeafSteps.{leaf-layout, leaf-enum, leaf-valid}
+use Rattle.plans.proofs.LeafSteps.{leaf-layout, leaf-symbols, leaf-enum, leaf-valid}
 use Rattle.differences.specs.Same.{sameNamed, sameSymbol, sameIn}
 use Rattle.comparing.specs.declared.Compared.the-variants.{Same, Differ}
 use Rattle.comparing.specs.Comparing.{EntrySays}
@@ -102,16 +102,6 @@ module _ (ws ts wd td : List ℕ) (f g : Found) (numbers : Bool) where
 
   pub both-found : {i j : ℕ} {r : Bool} → f ≡ At i → g ≡ At j → r ≡ same (nameAt ws ts i) (nameAt wd td j) → r ≡ sameNamed (nameFound ws ts f) (nameFound wd td g) numbers
   both-found e h q = rw (e, h) q
-
-leaf-symbols : (w t : List ℕ) (k : ℕ) → symbols (leafOfType w t k) ≡ symbolsAt w t (firstWord w k) (symbolRows w k)
-unfolding leafOfType symbolRows symbolsAt
-leaf-symbols w t k = go (eqb (classWord w k) 2) (isReal w k)
-  where
-    go : (b c : Bool) → symbols (cond b (enumeration (layoutAt w k) (symbolsAt w t (firstWord w k) (rowsWord w k))) (cond c (real (layoutAt w k)) (atomic (layoutAt w k))))
-        ≡ symbolsAt w t (firstWord w k) (cond b (rowsWord w k) 0)
-    go true c = refl
-    go false true = refl
-    go false false = refl
 
 -- no class is that of an enum and of a real
 both : (c : ℕ) → eqb c 2 ≡ true → eqb c 5 ≡ true → ⊥

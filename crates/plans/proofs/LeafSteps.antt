@@ -85,7 +85,7 @@ leaf-layout w t k = go (eqb (classWord w k) 2) (isReal w k)
     go false true = refl
     go false false = refl
 
-leaf-symbols : (w t : List ℕ) (k : ℕ) → symbols (leafOfType w t k) ≡ symbolsAt w t (firstWord w k) (symbolRows w k)
+pub leaf-symbols : (w t : List ℕ) (k : ℕ) → symbols (leafOfType w t k) ≡ symbolsAt w t (firstWord w k) (symbolRows w k)
 unfolding leafOfType symbolRows symbolsAt
 leaf-symbols w t k = go (eqb (classWord w k) 2) (isReal w k)
   where

@@ -6,13 +6,14 @@ use Prim.Native.Nat.{ℕ, zero, suc}
 use native.Mathlib.Omega.{arith}
 use borrow.Author.Needs.{needs}
 use Rattle.layout.proofs.Edits.{fails}
-use Rattle.datatype.specs.Datatype.{Leaf, Datatype, Members, same}
+use Rattle.datatype.specs.Datatype.{Leaf, Datatype, same}
 use Rattle.datatype.specs.Datatype.Leaf.{atomic, enumeration, real}
 use Rattle.datatype.specs.Datatype.Datatype.{leaf, compound, array}
-use Rattle.datatype.specs.Datatype.Members.{empty, member}
+use Rattle.datatype.specs.Datatype.Members.{member}
 use Rattle.datatype.specs.Paths.{Lookup, onFound, memberNamed}
 use Rattle.datatype.specs.Paths.Lookup.{missing, found}
 use Rattle.datatype.specs.SymbolSets.{leafKeeps, keepsSymbols, keepsIn}
+use Rattle.datatype.proofs.SymbolSets.{none-found}
 use Rattle.table.specs.Table.{memberTypeWord, dimensionsAt, node, decode}
 use Rattle.table.specs.Words.{Reads}
 use Rattle.plans.proofs.LeafSteps.{leaf-enum}
@@ -35,12 +36,6 @@ keeps-parts =
 
 -- ---- by kinds
 
--- a source without members has no member of any name
-none-named : (ms : Members) → keepsIn empty ms ≡ true
-unfolding memberNamed keepsSymbols
-none-named empty = refl
-none-named (member x offset T ms) = none-named ms
-
 leaves-differ : (x y : Leaf) → (leafKind y ≡ leafKind x → ⊥) → leafKeeps x y ≡ true
 leaves-differ (atomic l) y h = refl
 leaves-differ (enumeration l ss) (atomic k) h = refl
@@ -51,13 +46,13 @@ leaves-differ (real l) y h = refl
 kinds-differ : (S T : Datatype) → (treeKind T ≡ treeKind S → ⊥) → keepsSymbols S T ≡ true
 unfolding keepsSymbols
 kinds-differ (leaf x) (leaf y) h = leaves-differ x y h
-kinds-differ (leaf x) (compound z ms) h = none-named ms
+kinds-differ (leaf x) (compound z ms) h = none-found ms
 kinds-differ (leaf x) (array z ds T) h = refl
 kinds-differ (compound y ss) (leaf x) h = refl
 kinds-differ (compound y ss) (compound z ms) h = absurd (h refl)
 kinds-differ (compound y ss) (array z ds T) h = refl
 kinds-differ (array y es S) (leaf x) h = refl
-kinds-differ (array y es S) (compound z ms) h = none-named ms
+kinds-differ (array y es S) (compound z ms) h = none-found ms
 kinds-differ (array y es S) (array z ds T) h = absurd (h refl)
 
 leaf-number : (x y : Leaf) → (leafKind y ≡ 2 → ⊥) → leafKeeps x y ≡ true
