@@ -8,7 +8,8 @@ use Rattle.runs.specs.Run.{Run, answer, after, tableAfter, Answers}
 use Rattle.answer_words.specs.AnswerWords.{Gives}
 use Rattle.reports.specs.Call.{Call, Reports}
 use Rattle.differences.specs.Call as compare
-use Rattle.capi.specs.Calls.{Answered, Called, Converts, Reported, Compared}
+use Rattle.reaches.specs.Call as reach
+use Rattle.capi.specs.Calls.{Answered, Called, Converts, Reported, Compared, Reached}
 
 module _ {a b : Answer} {lent table words : List ℕ} {r : ℕ} (e : b ≡ a) (t : table ≡ tableAfter b lent) (g : Gives b r words) where
   pub answered : Answered a lent r words table
@@ -30,3 +31,8 @@ reported h g = record { answered = answered (h .answers) (h .clears) g; converts
 pub compared : {call : compare.Call} {a : Answer} {list table words : List ℕ} {r : ℕ} → compare.Compares call a list table → Gives a r words
     → Compared call r words list table
 compared h g = carried (h .answers) (h .clears) g (h .lists)
+
+-- a mask
+pub reached : {call : reach.Call} {a : Answer} {mask table words : List ℕ} {r : ℕ} → reach.Reaches call a mask table → Gives a r words
+    → Reached call r words mask table
+reached h g = carried (h .answers) (h .clears) g (h .marks)

@@ -9,6 +9,7 @@ use Rattle.runs.specs.Run.{Run, answer, after, tableAfter}
 use Rattle.reports.specs.Call as report
 use Rattle.reports.specs.Call.{Call}
 use Rattle.differences.specs.Call as compare
+use Rattle.reaches.specs.Call as reach
 
 -- a call that answers a, and leaves the table as every call leaves it
 pub record Answered (a : Answer) (lent : List ℕ) (r : ℕ) (words table : List ℕ) : Type 0 where
@@ -34,3 +35,7 @@ pub record Reported (call : Call) (r : ℕ) (words log : List ℕ) (memory : Lis
 -- a call that compares two logs
 abbrev pub Compared : compare.Call → ℕ → List ℕ → List ℕ → List ℕ → Type 0
 Compared call r words list table = Called (compare.answer call) (compare.listAfter call) (call .table) r words list table
+
+-- a call that asks which bits of a source record a conversion can turn on
+abbrev pub Reached : reach.Call → ℕ → List ℕ → List ℕ → List ℕ → Type 0
+Reached call r words mask table = Called (reach.answer call) (reach.maskAfter call) (call .table) r words mask table

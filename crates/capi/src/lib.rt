@@ -3,7 +3,7 @@ ghost use lib.ListN.{length};
 ghost use Rattle.runs.specs.Run.{copyingRun, inPlaceRun, plain};
 ghost use Rattle.leaves.specs.Call.{answerOf as listAnswerOf, listAfter};
 ghost use Rattle.record_size.specs.RecordSize.{answerOf as sizeAnswerOf};
-ghost use Rattle.capi.specs.Calls.{Answered, Called, Converts, Reported, Compared};
+ghost use Rattle.capi.specs.Calls.{Answered, Called, Converts, Reported, Compared, Reached};
 use answer_words::give;
 
 pub mod setters;
@@ -174,5 +174,20 @@ pub extern "C" fn yirvagul_compare(
     ensures { λ r. ⌜ Compared (record { firstSheet = now («first_sheet» .entry); secondSheet = now («second_sheet» .entry); count = count; first = now (first .entry); second = now (second .entry); list = now (list .entry); table = now (table .entry) }) r (now (words .exit)) (now (list .exit)) (now (table .exit)) ⌝ }
 {
     let a = compare::compare(first_sheet, second_sheet, count, first, second, list, table);
+    give(a, words)
+}
+
+// Marks the bits of a source record that a conversion can turn on.
+#[no_mangle]
+pub extern "C" fn yirvagul_reach(
+    source_sheet: &[u8],
+    destination_sheet: &[u8],
+    mask: &mut [u8],
+    table: &mut [u32],
+    words: &mut [u64; 8],
+) -> u32
+    ensures { λ r. ⌜ Reached (record { sourceSheet = now («source_sheet» .entry); destinationSheet = now («destination_sheet» .entry); mask = now (mask .entry); table = now (table .entry) }) r (now (words .exit)) (now (mask .exit)) (now (table .exit)) ⌝ }
+{
+    let a = reach::reach(source_sheet, destination_sheet, mask, table);
     give(a, words)
 }

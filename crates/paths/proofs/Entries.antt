@@ -131,7 +131,7 @@ module _ (S D : Datatype) where
       go unmatched later = refl
       go (matched a x y) later = refl
 
-  plan-done : (b z : ℕ) → z ≤ b → planFrom S D b (z - b) ≡ []
+  pub plan-done : (b z : ℕ) → z ≤ b → planFrom S D b (z - b) ≡ []
   unfolding planFrom
   plan-done b z h = let e : z - b ≡ 0 = omega arith in rw e refl
 
@@ -147,7 +147,7 @@ module _ (S D : Datatype) where
       (plan-none n (suc b) k (λ j l. let at : suc b + j ≡ b + suc j = omega arith in rw at (none (suc j) (omega arith)))))
 
   -- one byte with what it has, and those behind it without a match
-  plan-step : (b n z : ℕ) → 1 ≤ n → b + n ≤ z → ((j : ℕ) → 1 ≤ j → j < n → matchAt S D (b + j) ≡ unmatched)
+  pub plan-step : (b n z : ℕ) → 1 ≤ n → b + n ≤ z → ((j : ℕ) → 1 ≤ j → j < n → matchAt S D (b + j) ≡ unmatched)
       → planFrom S D b (z - b) ≡ entryOf b (matchAt S D b) ++ planFrom S D (b + n) (z - (b + n))
   plan-step b n z some inside none =
       let count : z - b ≡ suc (n - 1 + (z - (b + n))) = omega arith in
@@ -196,7 +196,7 @@ leaf-size w t k = go (eqb (classWord w k) 2) (eqb (classWord w k) 5)
 pub step-matched : (wd : List ℕ) {m : Pair} {a s d r : ℕ} → m ≡ Matched a s d → Reads (sizeWord wd d) r → r ≡ stepOf wd m
 step-matched wd e hr = rw e (hr .is)
 
-stepped : (ws ts : List ℕ) (i : ℕ) (wd td : List ℕ) (k b : ℕ) (m : Pair) → WellFormed (typeAt ws ts i) → WellFormed (typeAt wd td k) → MatchFound ws ts i wd td k b m
+pub stepped : (ws ts : List ℕ) (i : ℕ) (wd td : List ℕ) (k b : ℕ) (m : Pair) → WellFormed (typeAt ws ts i) → WellFormed (typeAt wd td k) → MatchFound ws ts i wd td k b m
     → Stepped (typeAt ws ts i) (typeAt wd td k) b (stepOf wd m)
 stepped ws ts i wd td k b (Matched a s d) f g found = rw (← leaf-size wd td d) (leaf-stepped (typeAt ws ts i) (typeAt wd td k) f g b (sym (found .is)))
 stepped ws ts i wd td k b (Unmatched n) f g found = none-stepped (typeAt ws ts i) (typeAt wd td k) b n (found .behind)

@@ -51,7 +51,7 @@ fn add_entry(plan: &mut [u32], entries: usize, destination_byte: usize, m: Pair)
 }
 
 // How many bytes on the next leaf may start: behind a matched one, or behind the bytes without a match.
-fn step_of(destination_half: &[u32], m: Pair) -> usize
+pub fn step_of(destination_half: &[u32], m: Pair) -> usize
     ensures { λ r. ⌜ r ≡ stepOf (now («destination_half» .entry)) m ⌝ }
 {
     match m {

@@ -23,12 +23,12 @@ use Rattle.plans.proofs.LeafSteps.{leaf-layout}
 -- ---- the list of entries
 
 module _ (plan ws ts wd td : List ℕ) where
-  entries-next : (n i : ℕ) → i < n
+  pub entries-next : (n i : ℕ) → i < n
       → entriesFrom plan ws ts wd td i (n - i) ≡ entryAt plan ws ts wd td i ∷ entriesFrom plan ws ts wd td (i + 1) (n - (i + 1))
   unfolding entriesFrom
   entries-next n i h = let e : n - i ≡ suc (n - (i + 1)) = omega arith in rw e
 
-  entries-end : (n i : ℕ) → n ≤ i → entriesFrom plan ws ts wd td i (n - i) ≡ []
+  pub entries-end : (n i : ℕ) → n ≤ i → entriesFrom plan ws ts wd td i (n - i) ≡ []
   unfolding entriesFrom
   entries-end n i h = let e : n - i ≡ 0 = omega arith in rw e
 

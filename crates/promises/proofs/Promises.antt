@@ -42,7 +42,7 @@ use Rattle.promises.specs.Promise.{answerNumber, answerFields, SameAnswe
 
 -- ---- answers
 
-same-answer : (r q : Run) → answer r ≡ answer q → SameAnswer r q
+pub same-answer : (r q : Run) → answer r ≡ answer q → SameAnswer r q
 same-answer r q e = record { number = ap numberOf e; fields = ap valuesOf e }
 
 done-zero : (r : Run) → DoneWithoutException r → answer r ≡ Done 0
@@ -51,12 +51,12 @@ done-zero r d = done-is (answer r) (d .done) ∙ ap Done (d .count)
 zero-done : (r : Run) → answer r ≡ Done 0 → DoneWithoutException r
 zero-done r e = record { done = ap numberOf e; count = ap (λ (a : Answer). valuesOf a .count) e }
 
-refused-before : (r : Run) (a : Answer) → checks r ≡ refused a → RefusedBeforeStop r
+pub refused-before : (r : Run) (a : Answer) → checks r ≡ refused a → RefusedBeforeStop r
 refused-before r a c =
     subst Early (sym (ap numberOf (answer-refused r a c))) (refused-early r a c)
 
 -- done or stopped is not refused before STOP
-not-early : {k : ℕ} → (k ≡ 0) ⊎ (k ≡ 8) → ¬ (Early k)
+pub not-early : {k : ℕ} → (k ≡ 0) ⊎ (k ≡ 8) → ¬ (Early k)
 not-early (inl e) (inl n) = omega (arith, e, n .0)
 not-early (inl e) (inr n) = omega (arith, e, n)
 not-early (inr e) (inl n) = omega (arith, e, n .1)
@@ -67,7 +67,7 @@ passed-not-before r S D c n =
     not-early (handled-number S D (r .handling) (r .count) (readings S D (r .source))) (subst Early (ap numberOf (answer-is r S D c)) n)
 
 -- the checks pass with the types of the sheets
-passed-types : (r : Run) (S D : Datatype) → Types r S D → (U W : Datatype) → checks r ≡ passed U W → checks r ≡ passed S D
+pub passed-types : (r : Run) (S D : Datatype) → Types r S D → (U W : Datatype) → checks r ≡ passed U W → checks r ≡ passed S D
 passed-types r S D t U W c =
     let p = passed-tells r U W c in
     let i : U ≡ S = cc (t .source, p .source) in
@@ -91,11 +91,11 @@ module _ (r : Run) (S D : Datatype) (c : checks r ≡ passed S D) where
   destination-formed : WellFormed D
   destination-formed = read-well-formed (r .destinationSheet) D (passed-tells r S D c .destination)
 
-  room : r .count * size D ≤ length (r .background)
+  pub room : r .count * size D ≤ length (r .background)
   room = room-behind (r .form) (r .count) (size S) (size D) (length (r .source)) (length (r .background)) (passed-tells r S D c .room)
 
   -- where it is done, its converted bytes are the records made of what was read
-  converted-is : IsDone r → convertedBytes D (r .count) (after r) ≡ convertedRecords S D (r .count) (readings S D (r .source)) (r .background)
+  pub converted-is : IsDone r → convertedBytes D (r .count) (after r) ≡ convertedRecords S D (r .count) (readings S D (r .source)) (r .background)
   converted-is d =
       ap (convertedBytes D (r .count)) (after-is r S D c (answerFields r .count) (done-is (answer r) d))
       ∙ result-converted S D source-formed destination-formed (r .count) (r .source) (r .background) room (r .form)
@@ -151,14 +151,14 @@ module _ (r q : Run) (s : SameCall r q) where
         (refused-or-passed (checks r))
 
     module _ (c : checks r ≡ passed S D) where
-      other : checks q ≡ passed S D
+      pub other : checks q ≡ passed S D
       other = sym same-checks ∙ c
 
-      other-room : r .count * size D ≤ length (q .background)
+      pub other-room : r .count * size D ≤ length (q .background)
       other-room = rw (s .count) (room q S D other)
 
       -- what q made, told by r's count
-      other-is : IsDone q → convertedRecords S D (r .count) (readings S D (q .source)) (q .background) ≡ convertedBytes D (q .count) (after q)
+      pub other-is : IsDone q → convertedRecords S D (r .count) (readings S D (q .source)) (q .background) ≡ convertedBytes D (q .count) (after q)
       other-is d = ap (λ (n : ℕ). convertedRecords S D n (readings S D (q .source)) (q .background)) (s .count) ∙ sym (converted-is q S D other d)
 
       same-bytes-made : IsDone r → IsDone q → Agree S D (r .count) (r .source) (q .source) → SameBackground D r q → SameConverted D r q
@@ -168,7 +168,7 @@ module _ (r q : Run) (s : SameCall r q) where
           (back ∙ ap (λ (n : ℕ). take (n * size D) (q .background)) (sym (s .count))) (agree-readings S D (r .count) (r .source) (q .source) agree)
           ∙ other-is e
 
-      same-tail : IsDone r → IsDone q → SameCleared S D r q
+      pub same-tail : IsDone r → IsDone q → SameCleared S D r q
       same-tail d e = cleared-is r S D c d ∙ ap₂ (λ (f : Form) (n : ℕ). zeros f S D n) (s .form) (s .count) ∙ sym (cleared-is q S D other e)
 
       -- the same converted bytes, without an exception: the same matched numbers

@@ -1,0 +1,9 @@
+pub mod Records
+pub mod OneBit
+pub mod Quiet
+pub mod Witness
+pub mod Demand1
+pub mod Mask
+pub mod OnMask
+pub mod Shows
+pub mod WithoutValue

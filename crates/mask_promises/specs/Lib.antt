@@ -1,0 +1,4 @@
+pub mod Bits
+pub mod Demand1
+pub mod Mask
+pub mod Reach
