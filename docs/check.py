@@ -16,6 +16,7 @@ import tempfile
 
 from yirvagul import (
     LIST_BYTES,
+    MASK_BYTES,
     SMALL_STACK_BYTES,
     STACK_BYTES,
     Class,
@@ -30,6 +31,7 @@ from yirvagul import (
     convert_copying,
     convert_in_place,
     leaf_list,
+    reach,
     record_size,
 )
 
@@ -209,9 +211,11 @@ def check_bytes(page, text):
 
 def check_teaching(page, text):
     check_bytes(page, text)
-    check_shown(page, text, "examples/rig.sheet", "crates/list/stdin", "crates/list/stdout")
+    check_shown(page, text, "examples/rig.sheet", "crates/list/stdin", "crates/list/stdout", "examples/oil.sheet", "examples/gauges.sheet")
     for part in runs(page):
         expect(part in blocks(text), page, f"does not show this part of the script's output:\n{part}")
+    drawn = [command for command in re.findall(r"^\$ (yirvagul bits .*)$", text, re.M) if run(f"{command} --svg -", ROOT) == read("docs/bits.svg")]
+    expect(drawn, page, "docs/bits.svg is not what its command draws")
     said = text.replace("\t", " ")
     explained = re.split(r"^### \d\. ", text, flags=re.M)[1:]
     errors = re.split(r"^\d\. ", read("bindings/python/classroom.txt"), flags=re.M)[1:]
@@ -277,6 +281,8 @@ def check_conversions(page, text):
         stopped = refusal(convert_copying, sheet(source), sheet(destination), 1, Handling.STOP, data(given), bytearray(8))
         named = stopped and (repr(stopped.given), stopped.answer[6:]) == (wanted.replace("−", "-"), tuple(int(word, 0) for word in words.split(", ")))
         expect(named, page, f"{given} from {source} to {destination}: {stopped}")
+    for source, destination, mask in rows(page, text, "| From | To | Mask |"):
+        expect(reach(sheet(source), sheet(destination)) == data(mask), page, f"the mask from {source} to {destination} is another one")
     for source, destination, given, wanted in rows(page, text, "| From | To | Buffer | After |"):
         buffer = bytearray(data(given))
         convert_in_place(sheet(source), sheet(destination), 2, Handling.STOP, buffer, bytes(2 * record_size(sheet(destination))))
@@ -373,6 +379,7 @@ def check_limits(page, text):
         "records in one call": lambda n: takes(n) and not takes(n + 1),
         "the working table": lambda n: f"YIRVAGUL_TABLE_WORDS {n}\n" in header,
         "a leaf list": lambda n: n == LIST_BYTES,
+        "a mask": lambda n: n == MASK_BYTES == len(reach(f"comp\t{n}\n", "comp\t1\n")) and f"YIRVAGUL_MASK_BYTES {n}\n" in header,
         "an int of a reader's sheet": lambda n: refused_at("CHANNEL", *(reported(WIDE.replace("64", str(k))) for k in (n, n + 1))),
         "records of one report": lambda n: refused_at("FULL", *(reported(BYTE, bytes(k)) for k in (n, n + 1))) and n == Report.MOST_RECORDS,
         "a report's memory": lambda n: n == constant("REPORT_WORDS"),
@@ -381,6 +388,7 @@ def check_limits(page, text):
         "a line of it": lambda n: f"YIRVAGUL_COMPARE_LINE_BYTES {n}\n" in header,
         "stack of a converting call, destination record of at most 128 bytes": lambda n: n == SMALL_STACK_BYTES,
         "stack of any converting call": lambda n: n == STACK_BYTES,
+        "stack of the call for the mask": lambda n: f"The call for the mask takes at most {n:,}," in header,
     }
     limits = dict(rows(page, text, "| What | At most |"))
     expect(list(limits) == list(tests), page, "other limits than are tried")

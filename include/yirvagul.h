@@ -1,5 +1,5 @@
 /* Yirvagul: converts records of instrument logs from one binary layout to another, in place or copying, reports on the numbers of many logs, compares two
- * logs, lists a layout's leaves, tells a record's size, and edits atomic layouts.
+ * logs, tells which bits of a source record a result can turn on, lists a layout's leaves, tells a record's size, and edits atomic layouts.
  *
  * Link with libcapi.a. Every call is proved against a definition of what it answers and of every byte that it leaves; it keeps nothing between calls,
  * allocates nothing and can be called from several threads at once, each with its own buffers.
@@ -7,8 +7,8 @@
  * What a caller owes, since C cannot say it in a type:
  *   - each pointer points at as many elements as the length beside it says; a sheet, a buffer, a memory or a table of length 0 may be NULL;
  *   - answer and layout point at eight words each, and are never NULL;
- *   - a buffer that is written (destination, buffer, log, memory, output, list, table, answer, layout) overlaps no other argument. Those that are only read
- *     may overlap each other.
+ *   - a buffer that is written (destination, buffer, log, memory, output, mask, list, table, answer, layout) overlaps no other argument. Those that are only
+ *     read may overlap each other.
  *
  * Sheets are text: lines ended by byte 10, fields parted by one tab, for example a compound of one 12-bit pressure:
  *
@@ -34,8 +34,8 @@ extern "C" {
 #define YIRVAGUL_TABLE_WORDS 8192
 
 /* The most bytes that a call takes of its thread's stack: any call; and one that converts, reports or compares where the destination record (the reader's, the
- * second log's) has at most 128 bytes, or that does none of these (the leaf list, the size, the setters). A call that is refused with HANDLING, TABLE, SOURCE
- * or DESTINATION takes at most 16,384. */
+ * second log's) has at most 128 bytes, or that does none of these (the leaf list, the size, the mask, the setters). A call that is refused with HANDLING,
+ * TABLE, SOURCE or DESTINATION takes at most 16,384. */
 #define YIRVAGUL_STACK_BYTES 163840
 #define YIRVAGUL_SMALL_STACK_BYTES 49152
 
@@ -63,7 +63,7 @@ enum {
     YIRVAGUL_COUNT = 6,
     /* A buffer is too short, with S and D for the sizes of a source and a destination record: the source or the first log for count * S bytes, the
      * destination, the background or the second log for count * D, the in-place buffer or the log for count * max(S, D), the report's memory for its words,
-     * a list, or the report's output. Lend a longer one. */
+     * the mask for S bytes, a list, or the report's output. Lend a longer one. */
     YIRVAGUL_ROOM = 7,
     /* Handling is stop, and a number does not fit: the first such leaf is `at` bytes into destination record `record`, `kind` says why, and `given` and
      * `magnitude` are the number. Give the destination a layout there that holds it, or convert with YIRVAGUL_CLAMP. */
@@ -84,8 +84,8 @@ enum {
 /* The answer's eight words. Each call that reads sheets writes all of them; a word that the number does not name is 0. */
 enum {
     YIRVAGUL_ANSWER_NUMBER = 0,   /* what the call returned */
-    YIRVAGUL_ANSWER_COUNT = 1,    /* done: how many leaves raised an exception; of the leaf list, the report or the list of differences, its length in
-                                      bytes; of the record size, that size in bytes */
+    YIRVAGUL_ANSWER_COUNT = 1,    /* done: how many leaves raised an exception; of the leaf list, the report, the list of differences or the mask, its
+                                      length in bytes; of the record size, that size in bytes */
     YIRVAGUL_ANSWER_LINE = 2,     /* SOURCE, DESTINATION: the first faulty line */
     YIRVAGUL_ANSWER_RECORD = 3,   /* STOP: the record, from 0 */
     YIRVAGUL_ANSWER_AT = 4,       /* STOP: the leaf's first byte in its destination record, from 0 */
@@ -230,6 +230,26 @@ uint32_t yirvagul_report(const uint8_t *source_sheet, size_t source_sheet_len, c
 uint32_t yirvagul_compare(const uint8_t *first_sheet, size_t first_sheet_len, const uint8_t *second_sheet, size_t second_sheet_len, uint64_t count,
                           const uint8_t *first, size_t first_len, const uint8_t *second, size_t second_len, uint8_t *list, size_t list_len,
                           uint32_t *table, size_t table_len, uint64_t answer[8]);
+
+/* ---- which bits of the source show ---- */
+
+/* A mask of this many bytes serves any two sheets. */
+#define YIRVAGUL_MASK_BYTES 4096
+
+/* Tells which bits of a source record a conversion between the two sheets can turn on: the significant bits of the matched source leaves. It writes one
+ * source record's bytes into the mask. Bit q of mask byte j is one if bit q of byte j of a source record is such a bit, and zero if it is a pad bit, a bit
+ * of a leaf that is not matched, or in no leaf. Bit 0 is the lowest bit of a byte, whatever the byte order of the leaf: a little-endian leaf of 12 bits at
+ * offset 4 has f0 ff, a big-endian one ff f0. All 64 bits of a real are in the mask.
+ *
+ * Two sources with the same bits under the mask, in every record, convert alike: the same answer, and over the same background the same converted bytes.
+ * And each bit of the mask shows: there are two sources that differ in it alone and that convert otherwise with YIRVAGUL_CLAMP, in the count or in the
+ * converted bytes. Only the bits of an enum without a value do not, where each number raises alike; with YIRVAGUL_STOP_FIRST the first such leaf can be what STOP
+ * names, with its number.
+ *
+ * Done gives the mask's length, which is the size of a source record; bytes behind it stay. The checks, in this order, are TABLE, SOURCE, DESTINATION, PATH,
+ * SYMBOLS and ROOM (a mask under one source record). A refusal leaves the mask as it was. The mask overlaps no other argument. */
+uint32_t yirvagul_reach(const uint8_t *source_sheet, size_t source_sheet_len, const uint8_t *destination_sheet, size_t destination_sheet_len, uint8_t *mask,
+                        size_t mask_len, uint32_t *table, size_t table_len, uint64_t answer[8]);
 
 /* ---- the leaf list ---- */
 

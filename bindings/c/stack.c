@@ -203,6 +203,7 @@ typedef enum {
     IN_PLACE_PLAIN,
     REPORT,
     COMPARE,
+    REACH,
     LIST,
     SIZE,
     SET_SIZE,
@@ -213,7 +214,7 @@ typedef enum {
     NONE
 } Form;
 
-static const char *const forms[] = {"copying",  "copying, plain", "in place",  "in place, plain", "report",   "compare", "list", "size",
+static const char *const forms[] = {"copying",  "copying, plain", "in place",  "in place, plain", "report",   "compare", "reach", "list", "size",
                                     "set size", "set field",      "set order", "set pads",        "set sign", "nothing"};
 
 typedef struct {
@@ -255,6 +256,7 @@ static uint32_t run(const Call *c) {
     case COMPARE: /* the second log is of bytes 0 */
         return yirvagul_compare(from, c->from_len, to, c->to_len, c->count, source, sizeof source, background, sizeof background, differences, c->room,
                                 table, c->table_len, answer);
+    case REACH: return yirvagul_reach(from, c->from_len, to, c->to_len, place, c->room, table, c->table_len, answer);
     case LIST: return yirvagul_leaf_list(from, c->from_len, list, c->room, table, c->table_len, answer);
     case SIZE: return yirvagul_record_size(from, c->from_len, table, c->table_len, answer);
     case SET_SIZE: return yirvagul_set_size(layout, c->handling);
@@ -431,6 +433,16 @@ static void test_compare(const Pair *p) {
     other = c, other.room = 0, expect(other, YIRVAGUL_ROOM, most);
 }
 
+/* The mask, and checks 12 and 7. */
+static void test_reach(const Pair *p) {
+    Call c = call(REACH, p->name, &p->from, &p->to);
+    uint32_t number = run(&c);
+    must(number == YIRVAGUL_DONE || number == YIRVAGUL_SYMBOLS, "two sheets with a path");
+    expect(c, number, YIRVAGUL_SMALL_STACK_BYTES);
+    c.room = size_of(&p->from) - 1;
+    expect(c, number == YIRVAGUL_SYMBOLS ? number : YIRVAGUL_ROOM, YIRVAGUL_SMALL_STACK_BYTES);
+}
+
 /* Checks 1 to 4, with faults in the last lines of the deepest sheets. */
 static void test_refused(const Pair *p) {
     static Sheet faulty;
@@ -444,7 +456,7 @@ static void test_refused(const Pair *p) {
         other = c, other.from = faulty.text, other.from_len = strlen(faulty.text), expect(other, YIRVAGUL_SOURCE, REFUSED_STACK_BYTES);
         other = c, other.from_len = SHEET_MOST + 1, expect(other, YIRVAGUL_SOURCE, REFUSED_STACK_BYTES);
         if (takes_handling(c.form)) other = c, other.handling = 2, expect(other, YIRVAGUL_HANDLING, REFUSED_STACK_BYTES);
-        if (form <= COMPARE) other = c, other.to = faulty.text, other.to_len = strlen(faulty.text), expect(other, YIRVAGUL_DESTINATION, REFUSED_STACK_BYTES);
+        if (form <= REACH) other = c, other.to = faulty.text, other.to_len = strlen(faulty.text), expect(other, YIRVAGUL_DESTINATION, REFUSED_STACK_BYTES);
     }
 }
 
@@ -463,7 +475,7 @@ static void test_no_path(const char *name, void (*deep)(Sheet *, const char *, i
     memset(&to, 0, sizeof to);
     deep(&from, BYTE, n);
     deep(&to, BITS, n);
-    for (form = COPYING; form <= COMPARE; form++) expect(call((Form)form, name, &from, &to), YIRVAGUL_PATH, most);
+    for (form = COPYING; form <= REACH; form++) expect(call((Form)form, name, &from, &to), YIRVAGUL_PATH, form == REACH ? YIRVAGUL_SMALL_STACK_BYTES : most);
 }
 
 /* Check 12, which a comparison has not. */
@@ -475,6 +487,7 @@ static void test_lost_symbol(const char *name, int size, size_t most) {
     deep_enum(&from, 101, 1);
     deep_enum(&to, 100, size);
     for (form = COPYING; form <= COMPARE; form++) expect(call((Form)form, name, &from, &to), form == COMPARE ? YIRVAGUL_DONE : YIRVAGUL_SYMBOLS, most);
+    expect(call(REACH, name, &from, &to), YIRVAGUL_SYMBOLS, YIRVAGUL_SMALL_STACK_BYTES);
 }
 
 static void test_setters(void) {
@@ -512,6 +525,7 @@ int main(int argc, char **argv) {
         test_converting(&pairs[i]);
         test_report(&pairs[i]);
         test_compare(&pairs[i]);
+        test_reach(&pairs[i]);
         test_refused(&pairs[i]);
         test_sheet(pairs[i].name, &pairs[i].from);
         test_sheet(pairs[i].name, &pairs[i].to);

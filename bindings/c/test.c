@@ -386,6 +386,43 @@ static void test_longest_lines(void) {
                   0, YIRVAGUL_COMPARE_HEADER_BYTES, 0, 0, 0, 0, "a log and itself");
 }
 
+/* ---- which bits of the source show */
+
+#define TEN_LE "int\t2\tLE\t2\t10\tzero\tzero\tunsigned\n"
+#define TEN_BE "int\t2\tBE\t2\t10\tzero\tzero\tunsigned\n"
+#define VALVE BYTE "enum\t0\nvalue\topen\t0\n"
+
+static uint32_t reach(const char *from, const char *to, uint8_t *mask, size_t mask_len) {
+    return yirvagul_reach((const uint8_t *)from, strlen(from), (const uint8_t *)to, strlen(to), mask, mask_len, table, YIRVAGUL_TABLE_WORDS, answer);
+}
+
+static void test_reach(void) {
+    static const char from[] = TEN_LE TEN_BE VALVE "comp\t8\nmember\toil\t0\t0\nmember\tboost\t2\t1\nmember\tvalve\t5\t2\n";
+    static const char to[] = PAIR "comp\t4\nmember\tboost\t0\t0\nmember\toil\t2\t0\n";
+    static uint8_t mask[YIRVAGUL_MASK_BYTES + 1];
+    int i;
+    memset(mask, 0x77, sizeof mask);
+    expect_answer(reach(from, to, mask, 9), 0, 8, 0, 0, 0, 0, "a mask");
+    expect_bytes(mask, "\xfc\x0f\x0f\xfc\x00\x00\x00\x00\x77", 9, "its bits, and no byte past it");
+    expect_answer(reach(REAL, BYTE, mask, 8), 0, 8, 0, 0, 0, 0, "the mask of a real");
+    expect_bytes(mask, "\xff\xff\xff\xff\xff\xff\xff\xff\x77", 9, "all 64 bits of it");
+    memset(mask, 0x77, sizeof mask);
+    expect_answer(reach(from, to, mask, 7), 7, 0, 0, 0, 0, 0, "ROOM, a mask short by one byte");
+    expect_answer(reach(VALVE "value\tshut\t1\n", VALVE, mask, 0), YIRVAGUL_SYMBOLS, 0, 0, 0, 0, 0, "SYMBOLS, before ROOM");
+    expect_answer(reach(BYTE, BITS, mask, 0), 5, 0, 0, 0, 0, 0, "PATH, before ROOM");
+    expect_answer(reach(BYTE, BYTE "x\n", mask, 0), 4, 0, 2, 0, 0, 0, "DESTINATION");
+    expect_answer(reach(BYTE "x\n", "", mask, 0), 3, 0, 2, 0, 0, 0, "SOURCE, before DESTINATION");
+    expect_answer(yirvagul_reach(NULL, 0, NULL, 0, NULL, 0, NULL, 0, answer), 2, 0, 0, 0, 0, 0, "TABLE, before SOURCE");
+    expect_answer(yirvagul_reach((const uint8_t *)BYTE, strlen(BYTE), (const uint8_t *)BYTE, strlen(BYTE), NULL, 0, table, YIRVAGUL_TABLE_WORDS, answer), 7,
+                  0, 0, 0, 0, 0, "ROOM, a NULL mask");
+    expect(mask[0] == 0x77 && mask[6] == 0x77, "a refusal leaves the mask");
+    expect_answer(reach(VALVE, VALVE "value\tshut\t1\n", mask, 1), 0, 1, 0, 0, 0, 0, "a symbol that the source lacks");
+    expect_answer(reach(BYTE "array\t0\t4096\n", BYTE "array\t0\t4096\n", mask, sizeof mask), 0, YIRVAGUL_MASK_BYTES, 0, 0, 0, 0, "the largest mask");
+    for (i = 0; i < YIRVAGUL_MASK_BYTES; i++) expect(mask[i] == 0xff, "every bit of the largest mask");
+    expect(mask[YIRVAGUL_MASK_BYTES] == 0x77, "no byte past the largest mask");
+    for (i = 0; i < YIRVAGUL_TABLE_WORDS; i++) expect(table[i] == 0, "the mask's call clears the table");
+}
+
 static void test_list(void) {
     static uint8_t list[YIRVAGUL_LIST_BYTES];
     const char *wanted = "at\tsize\tclass\n0\t1\tbits\n";
@@ -556,6 +593,7 @@ int main(void) {
     test_largest_report();
     test_compare();
     test_longest_lines();
+    test_reach();
     test_list();
     test_table();
     test_record_size();

@@ -5,11 +5,13 @@ import struct
 import classroom
 from classroom import BYTE, converter, copied, expect, flips_that_show, leaves, marks, number, print_picture, replaced, sheet, significant_bits
 from classroom import stopped
-from yirvagul import Handling, Refusal, compare, convert_copying
+from yirvagul import Handling, Refusal, compare, convert_copying, reach
 
 
 def bit_0():
-    convert = converter(classroom.RIG, classroom.WIDE, 6)
+    rig = sheet(classroom.PRESSURE, "array 0 3", "comp 8", "member boost 0 1")
+    plain = sheet("int 2 LE 0 16 zero zero unsigned", "array 0 3", "comp 6", "member boost 0 1")
+    convert = converter(rig, plain, 6)
     print("as it was:              ", convert(classroom.RECORD)[1].hex(" "))
     for bit in (0, 4):
         flipped = bytearray(classroom.RECORD)
@@ -144,9 +146,19 @@ def a_third_symbol():
     print("compared, 00 01 02 twice:", *(f"record {difference.record} differs, {difference.first} and {difference.second}" for difference in found))
 
 
+def the_valve_alone():
+    valve = sheet(classroom.VALVE, "enum 0", "value open 0", "value shut 1", "comp 1", "member valve 0 1")
+    convert = converter(classroom.OIL, valve, 1)
+    print("mask", reach(classroom.OIL, valve).hex(" "))
+    for number in (1, 7):
+        record = classroom.LOGGED[:7] + bytes([number])
+        count, out = convert(record)
+        print(f"{record.hex(' ')} -> {out.hex()}, count {count}; {len(flips_that_show(convert, record))} flips show")
+
+
 if __name__ == "__main__":
     bit_0()
     first = (another_record, minus_200, shrinking, kept_pads, all_ones, there_and_back, behind_the_stop, three_bytes)
-    for part in (*first, halves, two_ints_of_one_double, a_third_symbol):
+    for part in (*first, halves, two_ints_of_one_double, a_third_symbol, the_valve_alone):
         print()
         part()

@@ -8,7 +8,7 @@ import math
 import struct
 import sys
 
-from yirvagul import Handling, Refusal, convert_copying, convert_in_place
+from yirvagul import Handling, Refusal, convert_copying, convert_in_place, reach
 
 
 def sheet(*lines):
@@ -63,6 +63,7 @@ def leaves(record):
 
 
 def reading():
+    print("record", RECORD.hex(" "))
     print("leaf     bytes  container  number  pad")
     for name, layout, leaf in leaves(RECORD):
         pad = f"{leaf[1] & 0xF:x}" if layout == PRESSURE else "none"
@@ -207,9 +208,15 @@ def tail():
 
 # ---- which bits of the source could have changed the result?
 
-RIG = sheet(PRESSURE, VALVE, "enum 1", "value open 0", "value shut 1", "array 0 3", "comp 8", "member boost 0 3", "member valve 7 2")
-WIDE = sheet("int 2 LE 0 16 zero zero unsigned", "array 0 3", "comp 6", "member boost 0 1")
-NARROW = sheet(BYTE, "array 0 3", "comp 3", "member boost 0 1")
+# Two pressures, an oil temperature and a valve; for a customer who wants the first two of them as plain 16-bit numbers, and for one who has 8 bits for each.
+TEMPERATURE = "int 2 LE 2 10 zero zero unsigned"
+SYMBOLS = ("enum 2", "value open 0", "value shut 1")
+OIL = sheet(PRESSURE, TEMPERATURE, VALVE, *SYMBOLS, "array 0 2", "comp 8", "member boost 0 4", "member oil 4 1", "member valve 7 3")
+GAUGES = sheet("int 2 LE 0 16 zero zero unsigned", "array 0 2", "comp 6", "member boost 0 1", "member oil 4 0")
+DASH = sheet(BYTE, "array 0 2", "comp 3", "member boost 0 1", "member oil 2 0")
+
+# The pressures 100 and 2000, the temperature 424, and the valve shut.
+LOGGED = bytes.fromhex("06 43 7d 0c a3 f6 a7 01")
 
 
 def converter(source, destination, size):
@@ -232,6 +239,12 @@ def flips_that_show(convert, record):
             if convert(flipped) != unflipped:
                 found.add((byte, bit))
     return found
+
+
+def bits_that_can(source, destination):
+    """The bits of a source record that can show, as the library says: those that are one in its mask."""
+    mask = reach(source, destination)
+    return {(byte, bit) for byte, value in enumerate(mask) for bit in range(8) if value >> bit & 1}
 
 
 def significant_bits(at, size, order, offset, precision):
@@ -262,36 +275,45 @@ def expect(shown, significant):
 
 
 def flips():
-    matched = set().union(*(significant_bits(at, 2, "BE", 4, 12) for at in (0, 2, 4)))
-    boosts = [marks(byte, matched, "N", "p") for byte in range(6)]
-    print_picture(RECORD, {"": [*boosts, "g" * 8, "u" * 8]})
+    can = bits_that_can(OIL, GAUGES)
+    expect(can, set().union(*(significant_bits(at, 2, "BE", 4, 12) for at in (0, 2)), significant_bits(4, 2, "LE", 2, 10)))
+    numbers = [marks(byte, can, "N", "p") for byte in range(6)]
+    print_picture(LOGGED, {"": [*numbers, "g" * 8, "u" * 8]})
+    print("mask", *(f"      {value:02x}" for value in reach(OIL, GAUGES)))
 
-    wide, narrow = converter(RIG, WIDE, 6), converter(RIG, NARROW, 3)
-    show_wide, show_narrow = flips_that_show(wide, RECORD), flips_that_show(narrow, RECORD)
-    expect(show_wide, matched)
-    print("\nFlips of one source bit that show in the result: pressures into 16 bits; into 8 bits, clamped")
-    for byte, value in enumerate(RECORD):
+    wide, narrow = converter(OIL, GAUGES, 6), converter(OIL, DASH, 3)
+    expect(bits_that_can(OIL, DASH), can)
+    show_wide, show_narrow = flips_that_show(wide, LOGGED), flips_that_show(narrow, LOGGED)
+    expect(show_wide, can)
+    print("\nFlips of one source bit that show in the result: into 16 bits; into 8 bits, clamped")
+    for byte, value in enumerate(LOGGED):
         print(f"byte {byte}: {value:02x} {value:08b} {marks(byte, show_wide)} {marks(byte, show_narrow)}")
-    count, out = wide(RECORD)
-    print(f"16 bits: {out.hex(' ')}, count {count}; {len(show_wide)} flips show, the significant bits of the matched leaves and no others")
-    count, out = narrow(RECORD)
-    print(f"8 bits: {out.hex(' ')}, count {count}; {len(show_narrow)} flips show, clamping hides the other {len(matched - show_narrow)}")
+    count, out = wide(LOGGED)
+    print(f"16 bits: {out.hex(' ')}, count {count}; {len(show_wide)} flips show, the bits of the mask and no others")
+    count, out = narrow(LOGGED)
+    print(f"8 bits: {out.hex(' ')}, count {count}; {len(show_narrow)} flips show, clamping hides the other {len(can - show_narrow)}")
+    zeros = [flips_that_show(convert, bytes(8)) for convert in (wide, narrow)]
+    for shown in zeros:
+        expect(shown, can)
+    print("of a record of zeros:", " and ".join(f"{len(shown)}" for shown in zeros), "flips show, the bits of the mask and no others")
 
 
 # ---- the same two bytes in either order
 
-ORDERS = {"LE": "int 2 LE 2 10 zero zero unsigned", "BE": "int 2 BE 2 10 zero zero unsigned"}
-OIL = bytes.fromhex("a3 f6")
+ORDERS = {"LE": TEMPERATURE, "BE": "int 2 BE 2 10 zero zero unsigned"}
+TEN = bytes.fromhex("a3 f6")
 
 
 def orders():
     rows = {}
     for order, layout in ORDERS.items():
-        significant = significant_bits(0, 2, order, 2, 10)
-        expect(flips_that_show(converter(sheet(layout), sheet("int 2 LE 0 16 zero zero unsigned"), 2), OIL), significant)
-        rows[order] = [marks(byte, significant, "N", "p") for byte in range(2)]
-    print_picture(OIL, rows)
-    print(", ".join(f"{order}: {number(layout, OIL)}" for order, layout in ORDERS.items()))
+        plain = sheet("int 2 LE 0 16 zero zero unsigned")
+        can = bits_that_can(sheet(layout), plain)
+        expect(can, significant_bits(0, 2, order, 2, 10))
+        expect(flips_that_show(converter(sheet(layout), plain, 2), TEN), can)
+        rows[order] = [marks(byte, can, "N", "p") for byte in range(2)]
+    print_picture(TEN, rows)
+    print(", ".join(f"{order}: {number(layout, TEN)}" for order, layout in ORDERS.items()))
 
 
 # ---- pressures that are doubles

@@ -28,13 +28,20 @@ impl Failure {
     pub fn of_log(error: LogError, from: &OsStr, to: &OsStr, log: &OsStr) -> Failure {
         match error {
             LogError::Refused(error) => match error {
-                Error::Source { .. } => Failure::refused(said(from), error),
-                Error::Destination { .. } => Failure::refused(said(to), error),
                 Error::Stop { .. } | Error::Full { .. } => Failure::refused(said(log), error),
-                _ => Failure::refused(format!("{} to {}", said(from), said(to)), error),
+                _ => Failure::of_sheets(error, from, to),
             },
             LogError::Ragged { .. } => Failure::Io(format!("{}: {error}", said(log))),
             _ => Failure::Io(error.to_string()),
+        }
+    }
+
+    /// Adds the names of the sheets that a refusal is about.
+    pub fn of_sheets(error: Error, from: &OsStr, to: &OsStr) -> Failure {
+        match error {
+            Error::Source { .. } => Failure::refused(said(from), error),
+            Error::Destination { .. } => Failure::refused(said(to), error),
+            _ => Failure::refused(format!("{} to {}", said(from), said(to)), error),
         }
     }
 

@@ -2,6 +2,7 @@
 #![forbid(unsafe_code)]
 
 mod arguments;
+mod bits;
 mod compare;
 mod convert;
 mod failure;
@@ -24,10 +25,11 @@ struct Command {
     run: fn(Vec<OsString>) -> Result<ExitCode, Failure>,
 }
 
-const COMMANDS: [Command; 5] = [
+const COMMANDS: [Command; 6] = [
     convert::COMMAND,
     compare::COMMAND,
     report::COMMAND,
+    bits::COMMAND,
     list::COMMAND,
     size::COMMAND,
 ];

@@ -105,6 +105,7 @@ fn help_has_an_example() {
         "convert --help",
         "compare --help",
         "report --help",
+        "bits --help",
         "list --help",
         "size -h",
     ] {

@@ -8,6 +8,7 @@ pub mod field;
 pub mod list;
 pub mod number;
 pub mod paths;
+pub mod reach;
 pub mod real;
 pub mod report;
 pub mod setters;
@@ -23,6 +24,8 @@ mod exercises;
 mod faults;
 #[cfg(test)]
 mod lost_symbols;
+#[cfg(test)]
+mod masks;
 #[cfg(test)]
 mod reals;
 #[cfg(test)]

@@ -77,6 +77,7 @@ class Names(unittest.TestCase):
             "    yirvagul.convert_copying(sheet, sheet, 1, Handling.STOP, b'x', bytearray(1))\n"
             "    yirvagul.convert_in_place(sheet, sheet, 1, Handling.STOP, bytearray(1), b'x')\n"
             "    yirvagul.leaf_list(sheet)\n"
+            "    yirvagul.reach(sheet, sheet)\n"
             "threading.stack_size(yirvagul.STACK_BYTES + 65536)\n"
             "thread = threading.Thread(target=work)\n"
             "thread.start()\n"

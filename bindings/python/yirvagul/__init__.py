@@ -1,5 +1,5 @@
-"""Converts records of instrument logs from one binary layout to another, reports on the numbers of many logs, compares two logs, lists a layout's
-leaves, and edits atomic layouts.
+"""Converts records of instrument logs from one binary layout to another, reports on the numbers of many logs, compares two logs,
+tells which bits of a source record a result can turn on, lists a layout's leaves, and edits atomic layouts.
 
 A wrapper over Yirvagul's proved C library. A sheet is text or its bytes. A buffer that is read is anything with contiguous bytes (bytes, bytearray,
 memoryview, mmap, array, numpy array); one that is written is writable and shares no byte with one that is read, which is checked but for two mappings
@@ -27,12 +27,14 @@ from .comparing import Difference, compare, differences
 from .errors import Kind, Number, Refusal, Short
 from .layout import Class, Layout, Order, Pad, Sign
 from .log import Part, convert_log, convert_log_parts
+from .masks import MASK_BYTES, reach
 from .report import Report, Row, Summary
 
 __version__ = "0.1.0"
 
 __all__ = [
     "LIST_BYTES",
+    "MASK_BYTES",
     "SMALL_STACK_BYTES",
     "STACK_BYTES",
     "Class",
@@ -61,6 +63,7 @@ __all__ = [
     "differences",
     "dtype_of",
     "leaf_list",
+    "reach",
     "record_size",
     "sheet_of",
 ]
@@ -69,4 +72,5 @@ STACK_BYTES = 163840
 """The most that any call takes of its thread's stack."""
 
 SMALL_STACK_BYTES = 49152
-"""The most that a call takes where the destination record, or the second log's, has at most 128 bytes, and where it has no records."""
+"""The most that a call takes where the destination record, or the second log's, has at most 128 bytes, and where it has no records; `reach`
+says its own."""

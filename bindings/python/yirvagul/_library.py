@@ -67,6 +67,7 @@ report = _declare(
     [*_bytes, *_bytes, ctypes.c_uint64, *_bytes, *_bytes, ctypes.POINTER(ctypes.c_int64), ctypes.c_size_t, *_bytes, *_end],
 )
 compare = _declare("compare", [*_bytes, *_bytes, ctypes.c_uint64, *_bytes, *_bytes, *_bytes, *_end])
+reach = _declare("reach", [*_bytes, *_bytes, *_bytes, *_end])
 leaf_list = _declare("leaf_list", [*_bytes, *_bytes, *_end])
 record_size = _declare("record_size", [*_bytes, *_end])
 

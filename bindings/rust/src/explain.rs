@@ -14,6 +14,8 @@ pub(crate) enum Call<'a> {
     Report(&'a Sheets<'a>, i64),
     /// With the first log's sheet for the source's and the second's for the destination's; both logs, and the length of the list buffer.
     Compare(&'a Sheets<'a>, &'a [u8], &'a [u8], usize),
+    /// It lends a mask for any sheet.
+    Reach(&'a Sheets<'a>),
     /// The length of the list buffer.
     List(&'a [u8], usize),
     Size(&'a [u8]),
@@ -25,7 +27,8 @@ impl Call<'_> {
             Call::Copying(sheets, ..)
             | Call::InPlace(sheets, ..)
             | Call::Report(sheets, _)
-            | Call::Compare(sheets, ..) => sheets.source,
+            | Call::Compare(sheets, ..)
+            | Call::Reach(sheets) => sheets.source,
             Call::List(sheet, _) | Call::Size(sheet) => sheet,
         }
     }
@@ -36,7 +39,8 @@ impl Call<'_> {
             Call::Copying(sheets, ..)
             | Call::InPlace(sheets, ..)
             | Call::Report(sheets, _)
-            | Call::Compare(sheets, ..) => Some(sheets.destination),
+            | Call::Compare(sheets, ..)
+            | Call::Reach(sheets) => Some(sheets.destination),
             Call::List(..) | Call::Size(..) => None,
         }
     }
@@ -183,7 +187,7 @@ fn too_short(call: &Call, table: &mut [u32]) -> Option<Short> {
             let whole = raw::leaf_list(sheet, &mut vec![0; LIST_BYTES], table);
             vec![(Buffer::List, *list, whole[1])]
         }
-        Call::Report(..) | Call::Size(_) => vec![],
+        Call::Report(..) | Call::Reach(_) | Call::Size(_) => vec![],
     };
     lent.into_iter()
         .map(|(buffer, holds, needs)| Short {

@@ -1,5 +1,5 @@
-//! Converts records of instrument logs from one binary layout to another, reports on the numbers of many logs, compares two logs, lists a layout's leaves, and
-//! edits atomic layouts.
+//! Converts records of instrument logs from one binary layout to another, reports on the numbers of many logs, compares two logs, tells which bits of a source
+//! record a result can turn on, lists a layout's leaves, and edits atomic layouts.
 //!
 //! A layout sheet is text: lines ended by byte 10, fields parted by one tab. Here two pressures of 12 bits become whole 16-bit numbers:
 //!
@@ -18,6 +18,7 @@
 //! - [`convert_copying`] and [`convert_in_place`] convert up to 65,536 records in one call, and [`convert_log`] a log of any length.
 //! - [`compare`] gives each leaf where two logs differ, whatever their layouts.
 //! - [`Report`] adds up log after log: the lowest, the highest, the sum and the number of samples of each int.
+//! - [`reach`] says which bits of a source record could have changed the result, [`source_bits`] what the others are.
 //! - [`leaf_list`] says where a sheet's numbers lie, [`record_size`] how many bytes its record has.
 //! - [`Layout`] is the layout of one number, with setters.
 //! - A refused call gives an [`Error`], which says what is wrong, where, and what to do.
@@ -33,6 +34,7 @@ mod layout;
 mod log;
 #[allow(unsafe_code)]
 mod raw;
+mod reach;
 mod report;
 mod sheet;
 #[cfg(test)]
@@ -47,6 +49,7 @@ pub use log::{
     ReadSeek, Totals, WhichLog,
 };
 use raw::Sheets;
+pub use reach::{reach, source_bits, Bit, Mask, SourceBits, SourceLeaf, MASK_BYTES};
 pub use report::{Report, Row, SavedError, Summary};
 
 /// The words that the working table needs.
@@ -64,7 +67,8 @@ pub const COMPARE_LINE_BYTES: usize = 53;
 /// The most bytes that any call takes of its thread's stack.
 pub const STACK_BYTES: usize = 163_840;
 
-/// The most that a call takes where the destination record, or the second log's, has at most 128 bytes, and where it has no records.
+/// The most that a call takes where the destination record, or the second log's, has at most 128 bytes, and where it has no records; [`Converter::reach`]
+/// says its own.
 pub const SMALL_STACK_BYTES: usize = 49_152;
 
 /// What to do with numbers that do not fit.

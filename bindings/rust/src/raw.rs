@@ -100,6 +100,17 @@ mod c {
             table_len: usize,
             answer: *mut u64,
         ) -> u32;
+        pub fn yirvagul_reach(
+            source_sheet: *const u8,
+            source_sheet_len: usize,
+            destination_sheet: *const u8,
+            destination_sheet_len: usize,
+            mask: *mut u8,
+            mask_len: usize,
+            table: *mut u32,
+            table_len: usize,
+            answer: *mut u64,
+        ) -> u32;
         pub fn yirvagul_leaf_list(
             sheet: *const u8,
             sheet_len: usize,
@@ -300,6 +311,26 @@ pub fn compare(
             second.len(),
             list.as_mut_ptr(),
             list.len(),
+            table.as_mut_ptr(),
+            table.len(),
+            answer.as_mut_ptr(),
+        );
+    }
+    answer
+}
+
+/// The count is not looked at.
+pub fn reach(sheets: &Sheets, mask: &mut [u8], table: &mut [u32]) -> Answer {
+    let mut answer = [0; 8];
+    // SAFETY: each pointer is a slice's, with that slice's length.
+    unsafe {
+        c::yirvagul_reach(
+            sheets.source.as_ptr(),
+            sheets.source.len(),
+            sheets.destination.as_ptr(),
+            sheets.destination.len(),
+            mask.as_mut_ptr(),
+            mask.len(),
             table.as_mut_ptr(),
             table.len(),
             answer.as_mut_ptr(),

@@ -785,11 +785,11 @@ fn by(dimensions: &[u32]) -> String {
 }
 
 /// An array has at most 4,096 bytes, and so as many elements.
-fn count(dimensions: &[u32]) -> u32 {
+pub(crate) fn count(dimensions: &[u32]) -> u32 {
     dimensions.iter().product()
 }
 
-fn push_name(way: &mut String, name: &[u8]) {
+pub(crate) fn push_name(way: &mut String, name: &[u8]) {
     if !way.is_empty() {
         way.push('.');
     }
@@ -797,7 +797,7 @@ fn push_name(way: &mut String, name: &[u8]) {
 }
 
 /// The indices of an element, by its place in row-major order.
-fn push_element(way: &mut String, dimensions: &[u32], element: u32) {
+pub(crate) fn push_element(way: &mut String, dimensions: &[u32], element: u32) {
     let mut below = count(dimensions);
     for dimension in dimensions {
         below /= dimension;

@@ -2,6 +2,7 @@
 mod calls;
 mod compares;
 mod explained;
+mod reaches;
 mod reports;
 mod rules;
 mod symbols;

@@ -43,6 +43,11 @@ unsafe extern "C" {
         first: *const u8, first_len: usize, second: *const u8, second_len: usize,
         list: *mut u8, list_len: usize,
         table: *mut u32, table_len: usize, answer: *mut Answer) -> u32;
+    fn yirvagul_reach(
+        source_sheet: *const u8, source_sheet_len: usize,
+        destination_sheet: *const u8, destination_sheet_len: usize,
+        mask: *mut u8, mask_len: usize,
+        table: *mut u32, table_len: usize, answer: *mut Answer) -> u32;
     fn yirvagul_leaf_list(sheet: *const u8, sheet_len: usize, list: *mut u8, list_len: usize,
         table: *mut u32, table_len: usize, answer: *mut Answer) -> u32;
     fn yirvagul_record_size(sheet: *const u8, sheet_len: usize,
@@ -159,6 +164,29 @@ pub fn compare(random: &mut Random, run: &CompareRun) -> Result<Seen, String> {
     whole("the first log", first.unchanged())?;
     whole("the second log", second.unchanged())?;
     seen(returned, list, table, answer)
+}
+
+/// Runs the call that says which bits of a source record show.
+pub fn reach(
+    random: &mut Random,
+    (from, to): (&[u8], &[u8]),
+    mask: &[u8],
+    table: &[u32],
+) -> Result<Seen, String> {
+    let mut from = bytes(random, from);
+    let mut to = bytes(random, to);
+    let mut mask = bytes(random, mask);
+    let mut table = words(random, table);
+    let mut answer = answer(random);
+    #[rustfmt::skip]
+    let returned = unsafe {
+        yirvagul_reach(
+            from.pointer(), from.len(), to.pointer(), to.len(), mask.pointer(), mask.len(),
+            table.pointer(), table.len(), answer.pointer().cast())
+    };
+    whole("the source sheet", from.unchanged())?;
+    whole("the destination sheet", to.unchanged())?;
+    seen(returned, mask, table, answer)
 }
 
 /// Runs the leaf list.

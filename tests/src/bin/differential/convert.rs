@@ -7,6 +7,7 @@ use crate::limits;
 use crate::lines;
 use crate::model::Model;
 use crate::random::Random;
+use crate::reaches;
 use crate::records::records;
 use crate::run::{self, FORMS, Run};
 use crate::sizes;
@@ -65,7 +66,8 @@ pub fn long_case(random: &mut Random, tally: &mut Tally) -> Result<(), String> {
 pub fn finish(random: &mut Random, tally: &mut Tally, run: &Run) -> Result<(), String> {
     let seen = run::both(random, run)?;
     crate::events::note(tally, run, &seen);
-    sizes::of_run(random, tally, run)
+    sizes::of_run(random, tally, run)?;
+    reaches::of_run(random, tally, run)
 }
 
 /// Calls with both datatypes and the matches, if there is a path.

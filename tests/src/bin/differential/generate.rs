@@ -121,7 +121,7 @@ impl Maker<'_> {
 /// Two sheets of a few ints and reals under the same names, most of them a real
 /// in one of the two.
 pub fn reals(random: &mut Random) -> (Model, Model) {
-    paired(random, |random, from, to| {
+    paired(random, 7, |random, from, to| {
         let (first, second) = match random.below(5) {
             0 | 1 => (Line::Int(wide(random)), Line::Real(order(random))),
             2 | 3 => (Line::Real(order(random)), Line::Int(wide(random))),
@@ -135,7 +135,7 @@ pub fn reals(random: &mut Random) -> (Model, Model) {
 /// of many bits: each pair has a number that raises an exception, or nearly
 /// each.
 pub fn unequal(random: &mut Random) -> (Model, Model) {
-    paired(random, |random, from, to| {
+    paired(random, 7, |random, from, to| {
         let (first, second) = match random.below(9) {
             0 | 1 => (Line::Int(widest(random)), Line::Int(atomic(random, 8))),
             2 => (Line::Int(widest(random)), Line::Int(widest(random))),
@@ -148,6 +148,62 @@ pub fn unequal(random: &mut Random) -> (Model, Model) {
     })
 }
 
+/// Two sheets of a few leaves under mostly the same names, of every class,
+/// where the destination has every symbol of the source's enums.
+pub fn showing(random: &mut Random) -> (Model, Model) {
+    let (from, mut to) = paired(random, 3, |random, from, to| {
+        let (first, second) = match random.below(8) {
+            0 => (Line::Int(atomic(random, 8)), Line::Int(atomic(random, 8))),
+            1 => (unsigned(atomic(random, 8)), unsigned(atomic(random, 8))),
+            2 => (Line::Int(atomic(random, 8)), Line::Real(order(random))),
+            3 => (Line::Real(order(random)), Line::Int(atomic(random, 8))),
+            4 => (Line::Real(order(random)), Line::Real(order(random))),
+            _ => return kept_enums(random, from, to),
+        };
+        (from.push(first), to.push(second))
+    });
+    if let Some(Line::Comp { members, .. }) = to.types.last_mut() {
+        // What the destination lacks is not matched.
+        members.retain(|_| random.percent(85));
+    }
+    (from, to)
+}
+
+/// Two enums, the second with every symbol of the first.
+fn kept_enums(random: &mut Random, from: &mut Model, to: &mut Model) -> (usize, usize) {
+    let base = from.push(Line::Int(atomic(random, 4)));
+    let mut values = Vec::new();
+    for _ in 0..random.below(4) {
+        add_value(random, from.range(base), &mut values);
+    }
+    // One that differs from another in its lowest bit alone.
+    let beside = values.last().map(|value| value.1 ^ 1);
+    let (least, most) = from.range(base);
+    if let Some(number) = beside.filter(|number| (least..=most).contains(number)) {
+        add_value(random, (number, number), &mut values);
+    }
+    let other_base = to.push(Line::Int(wide(random)));
+    let (low, high) = to.range(other_base);
+    let mut others: Vec<(Name, i128)> = Vec::new();
+    for (name, _) in &values {
+        let is_new = |number: &i128| others.iter().all(|value| value.1 != *number);
+        let chosen = Some(random.number(low, high)).filter(is_new);
+        if let Some(number) = chosen.or_else(|| (low..=high).find(is_new)) {
+            others.push((name.clone(), number));
+        }
+    }
+    for _ in 0..random.below(3) {
+        add_value(random, (low, high), &mut others);
+    }
+    random.shuffle(&mut others);
+    let first = from.push(Line::Enum { base, values });
+    let second = to.push(Line::Enum {
+        base: other_base,
+        values: others,
+    });
+    (first, second)
+}
+
 fn unsigned(layout: Atomic) -> Line {
     Line::Bits(Atomic {
         signed: false,
@@ -158,7 +214,7 @@ fn unsigned(layout: Atomic) -> Line {
 /// Two sheets whose enums keep their symbols, have more of them or lose some; in
 /// members of their own, nested and in arrays, some of them unmatched.
 pub fn symbols(random: &mut Random) -> (Model, Model) {
-    let (mut from, mut to) = paired(random, |random, from, to| match random.below(8) {
+    let (mut from, mut to) = paired(random, 7, |random, from, to| match random.below(8) {
         0 => (
             from.push(Line::Int(atomic(random, 2))),
             to.push(Line::Int(atomic(random, 2))),
@@ -284,15 +340,16 @@ pub fn new_number(
     (0..12).map(|_| random.number(low, high)).find(is_new)
 }
 
-/// Two compounds of members under the same names; `pair` makes the types of a
-/// member in both sheets.
+/// Two compounds of at most so many members under the same names; `pair` makes
+/// the types of a member in both sheets.
 fn paired(
     random: &mut Random,
+    most: u64,
     pair: impl Fn(&mut Random, &mut Model, &mut Model) -> (usize, usize),
 ) -> (Model, Model) {
     let (mut from, mut to) = (Model::default(), Model::default());
     let (mut members, mut others): (Vec<Row>, Vec<Row>) = (Vec::new(), Vec::new());
-    for _ in 0..random.between(1, 7) {
+    for _ in 0..random.between(1, most) {
         let name = new_name(random, |name| members.iter().any(|row| row.name == name));
         let (first, second) = pair(random, &mut from, &mut to);
         for (rows, datatype) in [(&mut members, first), (&mut others, second)] {

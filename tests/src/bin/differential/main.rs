@@ -23,6 +23,7 @@ mod others;
 mod patterns;
 mod properties;
 mod random;
+mod reaches;
 mod real_events;
 mod records;
 mod report_events;
@@ -137,7 +138,8 @@ fn run_case(random: &mut Random, tally: &mut Tally) -> Result<(), String> {
         ),
         550..=799 => ("leaf list", others::list_case(random, tally)),
         800..=894 => ("setters", others::setter_case(random, tally)),
-        895..=999 => ("properties", properties::case(random, tally)),
+        895..=902 => ("which bits show", reaches::case(random, tally)),
+        903..=999 => ("properties", properties::case(random, tally)),
         1000 => (
             "report of 65,536 records",
             if random.percent(70) {

@@ -3,6 +3,7 @@
 
 use crate::compare_events;
 use crate::fields;
+use crate::reaches;
 use crate::real_events;
 use crate::run::{FORMS, Form};
 use crate::stop_events;
@@ -144,6 +145,7 @@ impl Tally {
             &stop_events::NEEDED,
             &compare_events::NEEDED,
             &symbol_events::NEEDED,
+            &reaches::NEEDED,
         ];
         let all = lists.iter().flat_map(|list| list.iter());
         let mut needed: Vec<String> = all.map(|what| what.to_string()).collect();
@@ -169,6 +171,7 @@ fn answers() -> Vec<String> {
     }
     add("report", &[0, 2, 3, 4, 5, 6, 7, 10, 11, 12]);
     add("compare", &[0, 2, 3, 4, 5, 6, 7]);
+    add("reach", &reaches::ANSWERS);
     add("leaf list", &[0, 2, 3, 7]);
     add("record size", &[0, 2, 3]);
     for setter in ["size", "field", "order", "pads", "sign"] {
