@@ -1,11 +1,12 @@
 // A line judged by itself and the lines before it, which are in the table; an accepted one is added.
 ghost use mathlib.Core.Path.{_≡_};
 ghost use Prim.Native.Nat.{_<_};
+ghost use lib.ListN.{length};
 ghost use Rattle.number.specs.Parts.{signedBy};
 ghost use Rattle.datatype.specs.Datatype.{binary64};
 ghost use Rattle.line.specs.Line.Line.{atomicLine, enumLine, valueLine, compoundLine, memberLine, arrayLine, realLine};
-ghost use Rattle.table.specs.Table.{bytesAt, upToZero, Holds};
-ghost use Rattle.sheet.specs.Sheet.{judgedAfter};
+ghost use Rattle.table.specs.Table.{bytesAt, upToZero, Holds, typeAt, membersAt, sizeWord, firstWord, rowsWord};
+ghost use Rattle.sheet.specs.Sheet.{judgedAfter, mayPlace};
 ghost use Rattle.sheet_steps.specs.Judged.{soFarAt, Judges};
 ghost use Rattle.sheet_steps.specs.Steps.{isIntAt, TypeAdded, RowAdded};
 use bits::BitAt;
@@ -25,6 +26,7 @@ use sheet_steps::Total;
 use table::CLASS;
 use table::COMPOUND;
 use table::ENUM;
+use table::HALF;
 use table::INT;
 use table::REAL;
 use table::SIZE;
@@ -173,6 +175,23 @@ pub fn judge_compound(half: &mut [u32], sheet: &[u8], types: u32, rows: u32, siz
     next_type(half, types, rows, compound_record(size, rows))
 }
 
+// The compound may have a member of this name and width at offset. The half is lent whole, with a constant for its length, so that compiled code compares no
+// row's place with it.
+fn may_add(
+    half: &[u32],
+    sheet: &[u8],
+    type_number: usize,
+    start: usize,
+    len: usize,
+    offset: usize,
+    width: usize,
+) -> bool
+    requires { ⌜ (length (now half) ≡ 4096) × (start < 4294967296) × (len < 4294967296) × (offset < 4294967296) × (width < 4294967296) ⌝ }
+    ensures { λ r. ⌜ r ≡ mayPlace (sizeWord (now (half .entry)) «type_number») (membersAt (typeAt (now (half .entry)) (now (sheet .entry))) (now (half .entry)) (now (sheet .entry)) (firstWord (now (half .entry)) «type_number») (rowsWord (now (half .entry)) «type_number»)) (bytesAt (now (sheet .entry)) start len) offset width ⌝ }
+{
+    may_place(&half[..HALF], sheet, type_number, start, len, offset, width)
+}
+
 pub fn judge_member(
     half: &mut [u32],
     sheet: &[u8],
@@ -197,7 +216,7 @@ pub fn judge_member(
         return Judged::Refused;
     }
     let width = type_word(half, kind as usize, SIZE);
-    if !may_place(half, sheet, i, start, len, offset as usize, width) {
+    if !may_add(half, sheet, i, start, len, offset as usize, width) {
         return Judged::Refused;
     }
     let r = member_record(start as u32, len as u32, offset, kind);

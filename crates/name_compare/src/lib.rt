@@ -15,7 +15,7 @@ fn byte(t: &[u8], k: usize) -> u8
     if k < t.len() { t[k] } else { 0 }
 }
 
-// The n bytes of a from i on are those of b from j on.
+// The n bytes of a from i on are those of b from j on. Both ends are compared first: names of one sheet often begin or end alike.
 fn same_bytes(a: &[u8], i: usize, b: &[u8], j: usize, n: usize) -> bool
     requires { ⌜ (i < 4294967296) × (j < 4294967296) × (n < 4294967296) ⌝ }
     ensures { λ r. ⌜ r ≡ same (bytesAt (now (a .entry)) i n) (bytesAt (now (b .entry)) j n) ⌝ }
@@ -23,29 +23,25 @@ fn same_bytes(a: &[u8], i: usize, b: &[u8], j: usize, n: usize) -> bool
     let mut p = i;
     let mut q = j;
     let mut left = n;
-    while 0 < left {
-        let x = byte(a, p);
-        let y = byte(b, q);
+    while 1 < left {
+        let x = byte(a, p + (left - 1));
+        let y = byte(b, q + (left - 1));
         if x != y {
+            return false;
+        }
+        let u = byte(a, p);
+        let v = byte(b, q);
+        if u != v {
             return false;
         }
         p += 1;
         q += 1;
-        left -= 1;
+        left -= 2;
     }
-    true
-}
-
-// The n bytes of a from i on and the m bytes of b from j on are the same name.
-pub fn same_name(a: &[u8], i: usize, n: usize, b: &[u8], j: usize, m: usize) -> bool
-    requires { ⌜ (i < 4294967296) × (j < 4294967296) × (n < 4294967296) ⌝ }
-    ensures { λ r. ⌜ r ≡ same (bytesAt (now (a .entry)) i n) (bytesAt (now (b .entry)) j m) ⌝ }
-{
-    if n == m {
-        same_bytes(a, i, b, j, n)
-    } else {
-        false
+    if left == 0 {
+        return true;
     }
+    byte(a, p) == byte(b, q)
 }
 
 // The len bytes of x from start on are the row's name.
@@ -53,7 +49,11 @@ pub fn has_name(half: &[u32], sheet: &[u8], row: usize, x: &[u8], start: usize, 
     requires { ⌜ (start < 4294967296) × (len < 4294967296) ⌝ }
     ensures { λ r. ⌜ r ≡ same (bytesAt (now (x .entry)) start len) (nameAt (now (half .entry)) (now (sheet .entry)) row) ⌝ }
 {
-    let s = row_word(half, row, NAME);
     let n = row_word(half, row, NAME_LENGTH);
-    same_name(x, start, len, sheet, s, n)
+    if len == n {
+        let s = row_word(half, row, NAME);
+        same_bytes(x, start, sheet, s, len)
+    } else {
+        false
+    }
 }

@@ -3,7 +3,6 @@ ghost use mathlib.Core.Path.{_≡_};
 ghost use mathlib.Core.Bool.{Bool};
 ghost use Prim.Native.Nat.{_<_};
 ghost use Rattle.datatype.specs.Datatype.{Datatype};
-ghost use Rattle.datatype.specs.Leaves.{within};
 ghost use Rattle.table.specs.Table.{nameAt, firstWord, rowsWord};
 ghost use Rattle.table.specs.Rows.{rowNamed};
 ghost use Rattle.paths.specs.Steps.{covers, rowOver, rowEnd, Nearer, GapEnd, kindAt, Inside};
@@ -23,26 +22,17 @@ use table::SIZE;
 use table::read::row_word;
 use table::read::type_word;
 
-// The byte lies in the z bytes from offset on.
-fn inside(offset: usize, z: usize, byte: usize) -> bool
-    requires { ⌜ (offset < 4294967296) × (z < 4294967296) ⌝ }
-    ensures { λ r. ⌜ r ≡ within offset z byte ⌝ }
-{
-    if offset <= byte {
-        byte < offset + z
-    } else {
-        false
-    }
-}
-
-// The byte lies in the member in the row.
+// The byte lies in the member in the row. Where the member starts behind the byte its type is not looked at.
 fn row_covers(half: &[u32], row: usize, byte: usize) -> bool
     ensures { λ r. ⌜ r ≡ covers (now (half .entry)) row byte ⌝ }
 {
     let offset = row_word(half, row, MEMBER_OFFSET);
+    if byte < offset {
+        return false;
+    }
     let k = row_word(half, row, MEMBER_TYPE);
     let z = type_word(half, k, SIZE);
-    inside(offset, z, byte)
+    byte < offset + z
 }
 
 // Of the n rows from first on, the newest whose member has the byte.

@@ -30,13 +30,13 @@ returns-4 c =
     let a = c .before .before .before .before .before .before .before .before .before .before .before .before .args in
     refused (c .before .before .before .before .before .before .before .before .before .before .before .before .pre .0)
     (member-refused (a .types) (a .sheet .now) (bytesAt (a .sheet .now) (a .start) (a .len)) (a .offset) (a .kind) (c .before .before .before .before .before .before .before .before .before .before .before .before .pre .0) (c .before .before .before .before .before .before .before .before .before .if1 .left) (c .before .before .before .before .before .before .before .before .if2 .left)
-    (sym (c .before .before .before .before .before .before .type-word .ensures .is) ∙ c .before .before .before .before .before .if3 .left) (c .before .before .before .type-word2 .ensures .is) (c .before .may-place .ensures) (c .if4 .taken))
+    (sym (c .before .before .before .before .before .before .type-word .ensures .is) ∙ c .before .before .before .before .before .if3 .left) (c .before .before .before .type-word2 .ensures .is) (c .before .may-add .ensures) (c .if4 .taken))
 
 returns-5 : tie.Need-returns-5
 returns-5 c =
     let a = c .before .before .before .before .before .before .before .before .before .before .before .before .before .before .before .before .before .args in
     member-judged (a .types) (a .sheet .now) (a .start) (a .len) (a .offset) (a .kind) (c .before .before .before .before .before .before .before .before .before .before .before .before .before .before .before .before .before .pre .0) (c .before .before .before .before .before .before .before .before .before .before .before .before .before .before .if1 .left) (c .before .before .before .before .before .before .before .before .before .before .before .before .before .if2 .left)
-    (sym (c .before .before .before .before .before .before .before .before .before .before .before .type-word .ensures .is) ∙ c .before .before .before .before .before .before .before .before .before .before .if3 .left) (c .before .before .before .before .before .before .before .before .type-word2 .ensures .is) (c .before .before .before .before .before .before .may-place .ensures) (c .before .before .before .before .before .if4 .left)
+    (sym (c .before .before .before .before .before .before .before .before .before .before .before .type-word .ensures .is) ∙ c .before .before .before .before .before .before .before .before .before .before .if3 .left) (c .before .before .before .before .before .before .before .before .type-word2 .ensures .is) (c .before .before .before .before .before .before .may-add .ensures) (c .before .before .before .before .before .if4 .left)
     (c .before .before .before .before .member-record .ensures) (c .before .before .next-row .ensures)
 
 pub judge-member-spec : {M : Type 1} → statement M

@@ -1,19 +1,20 @@
 -- `paths::types::row_covers` meets its contract. Assumes nothing.
-use Prim.Native.Nat.{ℕ}
-use mathlib.Core.Path.{_≡_, ap, ap₂, _∙_}
-use denote.Ref.{now}
+use mathlib.Core.Path.{refl}
 use borrow.Author.Needs.{needs}
+use borrow.Author.Tests.{le-leb, lt-leb}
 use Rattle.datatype.specs.Leaves.{within}
-use Rattle.table.specs.Table.{sizeWord}
 use Rattle.paths.proofs.types.row_covers.Statement.{statement}
 use Rattle.paths.proofs.types.row_covers.Tie as tie
 
 returns : tie.Need-returns
-returns c =
-    let a = c .before .before .before .before .before .args in
-    c .inside .ensures
-    ∙ ap₂ (λ (o z : ℕ). within o z (a .byte)) (c .before .before .before .row-word .ensures .is) (c .before .type-word .ensures .is ∙ ap (sizeWord (now (a .half))) (c .before .before .row-word2 .ensures .is))
+unfolding within
+returns c = rw (← (c .before .row-word .ensures .is), lt-leb _ _ (c .if1 .taken)) refl
+
+returns-2 : tie.Need-returns-2
+unfolding within
+returns-2 c =
+    rw (← (c .before .before .before .row-word .ensures .is), ← (c .before .row-word2 .ensures .is), ← (c .type-word .ensures .is), le-leb _ _ (c .before .before .if1 .left)) refl
 
 pub row-covers-spec : {M : Type 1} → statement M
 row-covers-spec =
-    tie.close (tie.spec (λ c κs. search needs) (λ c κs. search needs) (λ c κs. search needs) (λ c κs. search needs) returns)
+    tie.close (tie.spec (λ c κs. search needs) returns (λ c κs. search needs) (λ c κs. search needs) (λ c. search needs) returns-2)
