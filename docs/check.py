@@ -388,7 +388,7 @@ def check_limits(page, text):
         "a line of it": lambda n: f"YIRVAGUL_COMPARE_LINE_BYTES {n}\n" in header,
         "stack of a converting call, destination record of at most 128 bytes": lambda n: n == SMALL_STACK_BYTES,
         "stack of any converting call": lambda n: n == STACK_BYTES,
-        "stack of the call for the mask": lambda n: f"The call for the mask takes at most {n:,}," in header,
+        "stack of the call for the mask": lambda n: n == SMALL_STACK_BYTES,
     }
     limits = dict(rows(page, text, "| What | At most |"))
     expect(list(limits) == list(tests), page, "other limits than are tried")
