@@ -1,37 +1,46 @@
--- `alike_records::same_bytes` meets its contract. The loop's invariant: the first j bytes are the same. Assumes nothing.
-use mathlib.Core.Path.{_≡_, refl}
+-- `alike_records::same_bytes` meets its contract. The loop's invariant: how many of the first j bytes are the same. Assumes nothing.
+use mathlib.Core.Path.{_≡_, sym}
 use Prim.Native.Nat.{_≤_, _-_}
 use native.Mathlib.Omega.{arith}
-use lib.ListN.{take}
-use Rattle.alike_records.proofs.SameBytes.{bytes-more, bytes-differ, bytes-same}
+use borrow.Author.Needs.{needs}
+use lib.ListN.{length}
+use lib.Seq.{length-take-le}
+use Rattle.alike_records.proofs.SameBytes.{Counted, counted-start, counted-turn, counted-whole}
 use Rattle.alike_records.proofs.same_bytes.Statement.{statement}
 use Rattle.alike_records.proofs.same_bytes.Tie as tie
 
 abbrev Inv-loop : tie.InvT-loop
-Inv-loop a b n j₀ j = (j ≤ n) × (take j a ≡ take j b)
+Inv-loop a b n x y equal₀ j₀ equal j = (j ≤ n) × (length x ≡ n) × (length y ≡ n) × Counted x y j equal
 
 abbrev μ-loop : tie.MeasureT-loop
-μ-loop a b n j₀ j = n - j
+μ-loop a b n x y equal₀ j₀ equal j = n - j
+
+slice-aggregate-x : tie.Need-slice-aggregate-x Inv-loop μ-loop
+slice-aggregate-x c =
+    let x = c .before .before .before in
+    sym (length-take-le (x .args .n) (x .args .a .now) (x .pre .0))
+
+slice-aggregate-y : tie.Need-slice-aggregate-y Inv-loop μ-loop
+slice-aggregate-y c =
+    let x = c .before .before .before .before in
+    sym (length-take-le (x .args .n) (x .args .b .now) (x .pre .1))
 
 loop-holds : tie.Need-loop-holds Inv-loop μ-loop
-loop-holds c = (omega arith, refl)
-
-returns : tie.Need-returns Inv-loop μ-loop
-returns c =
-    let l = c .before .before .before in
-    let a = l .before .before .args in
-    bytes-differ (a .a .now) (a .b .now) (a .n) (l .before .loop .j) (l .loop-test .taken) (c .if1 .taken)
+loop-holds c =
+    let x = c .before .before .before .before in
+    (omega arith, length-take-le (x .args .n) (x .args .a .now) (x .pre .0), length-take-le (x .args .n) (x .args .b .now) (x .pre .1), counted-start _ _)
 
 loop-again : tie.Need-loop-again Inv-loop μ-loop
 loop-again c =
-    let l = c .before .before .before in
-    let a = l .before .before .args in
-    (omega arith, bytes-more (a .a .now) (a .b .now) (a .n) (l .before .loop .j) (omega arith) (omega arith) (l .before .loop .inv .1) (c .if1 .left))
+    let l = c .before .before .before .before in
+    let i = l .loop .inv in
+    (omega arith, i .1, i .2, counted-turn _ _ (l .loop .j) (omega (arith, i .1)) (omega (arith, i .2)) (l .loop .equal) (i .3) (c .counted .ensures))
 
-returns-2 : tie.Need-returns-2 Inv-loop μ-loop
-returns-2 c =
-    let a = c .before .before .args in
-    bytes-same (a .a .now) (a .b .now) (a .n) (c .before .loop .j) (omega arith) (c .before .loop .inv .1)
+returns : tie.Need-returns Inv-loop μ-loop
+returns c =
+    let l = c .before in
+    let x = c .before .before .before .before .before .before in
+    counted-whole (x .args .a .now) (x .args .b .now) (x .args .n) (l .loop .j) (l .loop .equal) (omega arith) (l .loop .inv .3)
 
 pub same-bytes-spec : {M : Type 1} → statement M
 same-bytes-spec =
@@ -39,11 +48,14 @@ same-bytes-spec =
     (tie.spec
     Inv-loop
     μ-loop
+    slice-aggregate-x
+    slice-aggregate-y
     loop-holds
     (λ c. omega arith)
     (λ c. omega arith)
-    returns
+    (λ c κs. search needs)
+    (λ c. omega arith)
     (λ c. omega arith)
     (λ c. omega arith)
     loop-again
-    returns-2)
+    returns)
