@@ -12,11 +12,11 @@ ghost use Rattle.differences.specs.Differences.{inRecord};
 use copy_loop::copy_records;
 use loops::bytes::copy_bytes;
 
-// 1 where two bytes are the same.
-fn counted(x: u8, y: u8) -> usize
-    ensures { λ r. ⌜ (r ≡ cond (eqb x y) 1 0) × (r ≤ 1) ⌝ }
+// 1 where two bytes differ, else what was found before them.
+fn found(before: u8, x: u8, y: u8) -> u8
+    ensures { λ r. ⌜ r ≡ cond (eqb x y) before 1 ⌝ }
 {
-    if x == y { 1 } else { 0 }
+    if x == y { before } else { 1 }
 }
 
 // The first n bytes of a are those of b. All are looked at, whatever they hold: compiled code then compares many at once.
@@ -26,13 +26,13 @@ fn same_bytes(a: &[u8], b: &[u8], n: usize) -> bool
 {
     let x = &a[..n];
     let y = &b[..n];
-    let mut equal: usize = 0;
+    let mut other: u8 = 0;
     let mut j: usize = 0;
     while j < n {
-        equal += counted(x[j], y[j]);
+        other = found(other, x[j], y[j]);
         j += 1;
     }
-    equal == n
+    other == 0
 }
 
 // So many records of the first log are converted over a copy of the second log's. Where no exception was raised and no byte of the copy has changed, no matched number differs.

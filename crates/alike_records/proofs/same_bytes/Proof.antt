@@ -1,19 +1,19 @@
--- `alike_records::same_bytes` meets its contract. The loop's invariant: how many of the first j bytes are the same. Assumes nothing.
+-- `alike_records::same_bytes` meets its contract. The loop's invariant: whether one of the first j bytes differs. Assumes nothing.
 use mathlib.Core.Path.{_≡_, sym}
 use Prim.Native.Nat.{_≤_, _-_}
 use native.Mathlib.Omega.{arith}
 use borrow.Author.Needs.{needs}
 use lib.ListN.{length}
 use lib.Seq.{length-take-le}
-use Rattle.alike_records.proofs.SameBytes.{Counted, counted-start, counted-turn, counted-whole}
+use Rattle.alike_records.proofs.SameBytes.{Found, found-start, found-turn, found-whole}
 use Rattle.alike_records.proofs.same_bytes.Statement.{statement}
 use Rattle.alike_records.proofs.same_bytes.Tie as tie
 
 abbrev Inv-loop : tie.InvT-loop
-Inv-loop a b n x y equal₀ j₀ equal j = (j ≤ n) × (length x ≡ n) × (length y ≡ n) × Counted x y j equal
+Inv-loop a b n x y other₀ j₀ other j = (j ≤ n) × (length x ≡ n) × (length y ≡ n) × Found x y j other
 
 abbrev μ-loop : tie.MeasureT-loop
-μ-loop a b n x y equal₀ j₀ equal j = n - j
+μ-loop a b n x y other₀ j₀ other j = n - j
 
 slice-aggregate-x : tie.Need-slice-aggregate-x Inv-loop μ-loop
 slice-aggregate-x c =
@@ -28,19 +28,19 @@ slice-aggregate-y c =
 loop-holds : tie.Need-loop-holds Inv-loop μ-loop
 loop-holds c =
     let x = c .before .before .before .before in
-    (omega arith, length-take-le (x .args .n) (x .args .a .now) (x .pre .0), length-take-le (x .args .n) (x .args .b .now) (x .pre .1), counted-start _ _)
+    (omega arith, length-take-le (x .args .n) (x .args .a .now) (x .pre .0), length-take-le (x .args .n) (x .args .b .now) (x .pre .1), found-start _ _)
 
 loop-again : tie.Need-loop-again Inv-loop μ-loop
 loop-again c =
     let l = c .before .before .before .before in
     let i = l .loop .inv in
-    (omega arith, i .1, i .2, counted-turn _ _ (l .loop .j) (omega (arith, i .1)) (omega (arith, i .2)) (l .loop .equal) (i .3) (c .counted .ensures))
+    (omega arith, i .1, i .2, found-turn _ _ (l .loop .j) (omega (arith, i .1)) (omega (arith, i .2)) (l .loop .other) (i .3) (c .found .ensures))
 
 returns : tie.Need-returns Inv-loop μ-loop
 returns c =
     let l = c .before in
     let x = c .before .before .before .before .before .before in
-    counted-whole (x .args .a .now) (x .args .b .now) (x .args .n) (l .loop .j) (l .loop .equal) (omega arith) (l .loop .inv .3)
+    found-whole (x .args .a .now) (x .args .b .now) (x .args .n) (l .loop .j) (l .loop .other) (omega arith) (l .loop .inv .3)
 
 pub same-bytes-spec : {M : Type 1} → statement M
 same-bytes-spec =
@@ -54,7 +54,6 @@ same-bytes-spec =
     (λ c. omega arith)
     (λ c. omega arith)
     (λ c κs. search needs)
-    (λ c. omega arith)
     (λ c. omega arith)
     (λ c. omega arith)
     loop-again
