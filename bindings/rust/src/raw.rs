@@ -1,6 +1,6 @@
 //! The calls of include/yirvagul.h on Rust's slices. A slice is never null, and a `&mut` overlaps nothing else, as that header asks of its callers.
 
-/// An answer's words: number, count, line, record, at, kind, and two for later.
+/// An answer's words: number, count, line, record, at, kind, given, magnitude.
 pub type Answer = [u64; 8];
 
 /// A layout's words: class, size, order, offset, precision, lsb, msb, sign.
