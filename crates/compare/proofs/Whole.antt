@@ -6,7 +6,6 @@ use Prim.Native.Nat.{ℕ, _≤_, _<_}
 use borrow.Author.Tests.{le-leb, lt-leb}
 use lib.Dec.{leb}
 use lib.ListN.{length, drop, replicate}
-use lib.Seq.{drop-at}
 use Rattle.answer.specs.declared.Answer.{Answer}
 use Rattle.answer.specs.declared.Answer.the-variants as answer
 use Rattle.datatype.specs.Datatype.{Datatype, size}
@@ -14,9 +13,11 @@ use Rattle.datatype.specs.Paths.{hasPath}
 use Rattle.table.specs.Table.{typeAt}
 use Rattle.sheet.specs.Sheet.{Sheet, sheetOf}
 use Rattle.sheet.specs.Sheet.Sheet.{ofType, faultyAt}
-use Rattle.runs.specs.Run.{Checked, require, withSheet, onChecked, hasRoom, cleared, tableAfter}
+use Rattle.runs.specs.Run.{Checked, require, withSheet, onChecked, hasRoom}
 use Rattle.runs.specs.Run.Checked.{refused, passed}
 use Rattle.runs.specs.Run.Form.{copying}
+use Rattle.runs.proofs.Checks.{Refusals, require-refuses, next-refuses}
+use Rattle.runs.proofs.Table.{Clears, sheets-clear, records-clear, call-clears}
 use Rattle.two_sheets.specs.TwoSheets.{first as front, second as back}
 use Rattle.conversion.specs.declared.Checks.{Checks}
 use Rattle.conversion.specs.declared.Checks.the-variants.{Refuse, Pass}
@@ -86,41 +87,22 @@ checks-are c h = rw (le-leb 8192 (length (c .table)) h) (go (sheetOf (c .firstSh
     go (ofType S) (faultyAt k) = refl
     go (ofType S) (ofType D) = types-are c S D
 
--- every answer behind check 2 clears the table
-abbrev answered : Call → Checked → Answer
-answered c k = onChecked (λ S D. answer.Done (length (textWith (c .count) (c .first) (c .second) S D))) (λ refusal. refusal) k
-
-types-clear : (c : Call) (t : List ℕ) (S D : Datatype) → tableAfter (answered c (meant.typeChecks c S D)) t ≡ cleared t
-types-clear c t S D =
-    go (hasPath S D) (leb (c .count) 65536) (hasRoom copying (c .count) (size S) (size D) (length (c .first)) (length (c .second)))
-    (leb (length (textWith (c .count) (c .first) (c .second) S D)) (length (c .list)))
-  where
-    go : (x y z v : Bool)
-        → tableAfter (answered c (require x answer.Path (require y answer.Count (require z answer.Room (require v answer.Room (passed S D)))))) t ≡ cleared t
-    go false y z v = refl
-    go true false z v = refl
-    go true true false v = refl
-    go true true true false = refl
-    go true true true true = refl
-
-sheets-clear : (c : Call) (t : List ℕ) → tableAfter (answered c (inner c)) t ≡ cleared t
-sheets-clear c t = go (sheetOf (c .firstSheet)) (sheetOf (c .secondSheet))
-  where
-    go : (a b : Sheet)
-        → tableAfter (answered c (onChecked (nextOf c) refused (withSheet a answer.Source (λ S. withSheet b answer.Destination (typesOf c S))))) t ≡ cleared t
-    go (faultyAt k) b = refl
-    go (ofType S) (faultyAt k) = refl
-    go (ofType S) (ofType D) = ap (λ (k : Checked). tableAfter (answered c k) t) (sym (types-are c S D)) ∙ types-clear c t S D
+refusals-clear : (c : Call) (t : List ℕ) → Refusals (Clears t) (inner c)
+refusals-clear c t =
+    next-refuses (Clears t) (nextOf c) (sheetsChecked (c .firstSheet) (c .secondSheet) (c .count) (length (c .first)) (length (c .second)))
+    (sheets-clear t (sheetOf (c .firstSheet)) (sheetOf (c .secondSheet)) (typesOf c)
+    (λ S D. require-refuses (Clears t) (hasPath S D) answer.Path _ (λ e. refl) (records-clear t copying (c .count) (length (c .first)) (length (c .second)) S D)))
+    (λ S D. require-refuses (Clears t) (leb (length (textWith (c .count) (c .first) (c .second) S D)) (length (c .list))) answer.Room (passed S D) (λ e. refl) tt)
 
 pub compares-all : (c : Call) (r : Answer) (list lent : List ℕ) → 8192 ≤ length (c .table) → length lent ≡ 8192
     → Leaves (c .count) (c .first) (c .second) (c .list) (inner c) r list
     → Compares c r list (replicate 8192 0 ++ drop 8192 (lent ++ drop 8192 (c .table)))
-unfolding meant.answer meant.listAfter cleared
+unfolding meant.answer meant.listAfter
 compares-all c r list lent h l leaves =
     record {
       answers = leaves .answers ∙ sym (rw (checks-are c h) refl);
       lists = leaves .lists ∙ sym (rw (checks-are c h) refl);
       clears =
-          ap (λ (x : List ℕ). replicate 8192 0 ++ x) (drop-at lent (drop 8192 (c .table)) 8192 l)
-          ∙ sym (ap (λ (a : Answer). tableAfter a (c .table)) (leaves .answers) ∙ sheets-clear c (c .table));
+          call-clears (c .table) (λ S D. answer.Done (length (textWith (c .count) (c .first) (c .second) S D))) (λ S D. refl) (inner c) lent (refusals-clear c (c .table))
+          (leaves .answers) l;
     }

@@ -1,28 +1,24 @@
 -- The whole call: checks 1 and 2, and the table afterwards. Assumes nothing.
 use mathlib.Core.Path.{_≡_, refl, sym, ap, subst, _∙_}
-use mathlib.Core.Bool.{Bool, true, false}
-use mathlib.Core.Logic.{_⊎_, inl, inr, ⊎-elim}
+use mathlib.Core.Logic.{⊎-elim}
 use mathlib.Core.List.{List, _++_}
 use Prim.Native.Nat.{ℕ, _≤_, _<_}
 use native.Mathlib.Omega.{arith}
 use borrow.Author.Tests.{le-leb, lt-leb}
 use lib.Dec.{leb}
 use lib.ListN.{length, drop, replicate}
-use lib.Seq.{drop-at}
 use Rattle.answer.specs.declared.Answer.{Answer}
 use Rattle.answer.specs.declared.Answer.the-variants as answer
 use Rattle.answer.specs.Answer.{numberOf}
 use Rattle.datatype.specs.Datatype.{Datatype, size}
 use Rattle.datatype.specs.Paths.{hasPath}
 use Rattle.datatype.specs.SymbolSets.{keepsSymbols}
-use Rattle.sheet.specs.Sheet.{Sheet, sheetOf}
-use Rattle.sheet.specs.Sheet.Sheet.{ofType, faultyAt}
+use Rattle.sheet.specs.Sheet.{sheetOf}
 use Rattle.records.specs.Records.{readings}
-use Rattle.runs.specs.Run.{Form, Run, Checked, handled, target, require, withSheet, hasRoom, typeChecks, sheetChecks, checksOf, checks, answer, after, cleared, tableAfter, Answers}
-use Rattle.runs.specs.Run as run
-use Rattle.runs.specs.Run.Checked.{refused, passed}
-use Rattle.conversion.specs.Call.{answered, Leaves}
-use Rattle.runs.proofs.Checks.{done-is, stop-is}
+use Rattle.runs.specs.Run.{Form, Run, handled, target, typeChecks, sheetChecks, checksOf, answer, after, tableAfter, Answers}
+use Rattle.conversion.specs.Call.{Leaves}
+use Rattle.runs.proofs.Checks.{Refusals, done-is, stop-is, require-refuses}
+use Rattle.runs.proofs.Table.{Clears, sheets-clear, records-clear, call-clears}
 use Rattle.runs.proofs.Exceptions.{handled-number}
 
 pub bad-handling : (r : Run) → 1 < r .handling → Answers r answer.Handling (target (r .form) (r .source) (r .background)) (r .table)
@@ -41,42 +37,29 @@ short-table r h g =
 -- ---- which answers clear the table
 
 module _ (t : List ℕ) where
-  handled-clears : (h : ℕ) (S D : Datatype) (n : ℕ) (source : List ℕ) → tableAfter (handled h S D n (readings S D source)) t ≡ cleared t
+  handled-clears : (h : ℕ) (S D : Datatype) (n : ℕ) (source : List ℕ) → Clears t (handled h S D n (readings S D source))
   handled-clears h S D n source =
       let a : Answer = handled h S D n (readings S D source) in
       ⊎-elim (λ e. ap (λ (x : Answer). tableAfter x t) (done-is a e)) (λ e. ap (λ (x : Answer). tableAfter x t) (stop-is a e .1))
       (handled-number S D h n (readings S D source))
 
-  typed-clears : (form : Form) (h n : ℕ) (source : List ℕ) (x y : ℕ) (S D : Datatype) → tableAfter (answered h n source (typeChecks form n x y S D)) t ≡ cleared t
-  typed-clears form h n source x y S D = go (hasPath S D) (keepsSymbols S D) (leb n 65536) (hasRoom form n (size S) (size D) x y)
-    where
-      go : (a k b c : Bool)
-          → tableAfter (answered h n source (require a answer.Path (require k answer.Symbols (require b answer.Count (require c answer.Room (passed S D)))))) t ≡ cleared t
-      go false k b c = refl
-      go true false b c = refl
-      go true true false c = refl
-      go true true true false = refl
-      go true true true true = handled-clears h S D n source
-
-  pub sheets-clear : (form : Form) (h n : ℕ) (source ss ds : List ℕ) (x y : ℕ) → tableAfter (answered h n source (sheetChecks form ss ds n x y)) t ≡ cleared t
-  sheets-clear form h n source ss ds x y = go (sheetOf ss) (sheetOf ds)
-    where
-      go : (a b : Sheet) → tableAfter (answered h n source (withSheet a answer.Source (λ S. withSheet b answer.Destination (typeChecks form n x y S)))) t ≡ cleared t
-      go (faultyAt k) b = refl
-      go (ofType S) (faultyAt k) = refl
-      go (ofType S) (ofType D) = typed-clears form h n source x y S D
+  refusals-clear : (form : Form) (ss ds : List ℕ) (n x y : ℕ) → Refusals (Clears t) (sheetChecks form ss ds n x y)
+  refusals-clear form ss ds n x y =
+      sheets-clear t (sheetOf ss) (sheetOf ds) (typeChecks form n x y)
+      (λ S D. require-refuses (Clears t) (hasPath S D) answer.Path _ (λ e. refl)
+      (require-refuses (Clears t) (keepsSymbols S D) answer.Symbols _ (λ e. refl) (records-clear t form n x y S D)))
 
 pub answers-all : (r : Run) (a : Answer) (out lent : List ℕ) → r .handling ≤ 1 → 8192 ≤ length (r .table) → length lent ≡ 8192
     → Leaves (r .form) (r .handling) (r .count) (r .source) (r .background) (sheetChecks (r .form) (r .sourceSheet) (r .destinationSheet) (r .count) (length (r .source)) (length (r .background))) a out
     → Answers r a out (replicate 8192 0 ++ drop 8192 (lent ++ drop 8192 (r .table)))
-unfolding answer after checksOf cleared
+unfolding answer after checksOf
 answers-all r a out lent h g l leaves =
     record {
       answers = leaves .answers ∙ sym (rw (le-leb (r .handling) 1 h, le-leb 8192 (length (r .table)) g) refl);
       leaves = leaves .leaves ∙ sym (rw (le-leb (r .handling) 1 h, le-leb 8192 (length (r .table)) g) refl);
       clears =
-          ap (λ (x : List ℕ). replicate 8192 0 ++ x) (drop-at lent (drop 8192 (r .table)) 8192 l)
-          ∙ sym
-          (ap (λ (x : Answer). tableAfter x (r .table)) (leaves .answers)
-          ∙ sheets-clear (r .table) (r .form) (r .handling) (r .count) (r .source) (r .sourceSheet) (r .destinationSheet) (length (r .source)) (length (r .background)));
+          call-clears (r .table) (λ S D. handled (r .handling) S D (r .count) (readings S D (r .source)))
+          (λ S D. handled-clears (r .table) (r .handling) S D (r .count) (r .source))
+          (sheetChecks (r .form) (r .sourceSheet) (r .destinationSheet) (r .count) (length (r .source)) (length (r .background))) lent
+          (refusals-clear (r .table) (r .form) (r .sourceSheet) (r .destinationSheet) (r .count) (length (r .source)) (length (r .background))) (leaves .answers) l;
     }

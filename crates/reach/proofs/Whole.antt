@@ -6,17 +6,16 @@ use Prim.Native.Nat.{ℕ, _-_, _≤_, _<_}
 use borrow.Author.Tests.{le-leb, lt-leb}
 use lib.Dec.{leb}
 use lib.ListN.{length, take, drop, replicate}
-use lib.Seq.{drop-at}
 use Rattle.answer.specs.declared.Answer.{Answer}
 use Rattle.answer.specs.declared.Answer.the-variants as answer
 use Rattle.datatype.specs.Datatype.{Datatype, size}
 use Rattle.datatype.specs.Paths.{hasPath}
 use Rattle.datatype.specs.SymbolSets.{keepsSymbols}
 use Rattle.table.specs.Table.{typeAt}
-use Rattle.sheet.specs.Sheet.{Sheet, sheetOf}
-use Rattle.sheet.specs.Sheet.Sheet.{ofType, faultyAt}
-use Rattle.runs.specs.Run.{Checked, require, withSheet, onChecked, cleared, tableAfter}
+use Rattle.sheet.specs.Sheet.{sheetOf}
 use Rattle.runs.specs.Run.Checked.{passed}
+use Rattle.runs.proofs.Checks.{Refusals, require-refuses}
+use Rattle.runs.proofs.Table.{Clears, sheets-clear, call-clears}
 use Rattle.two_sheets.specs.declared.Sheets.{Sheets}
 use Rattle.two_sheets.specs.declared.Sheets.the-variants as sheets
 use Rattle.two_sheets.specs.TwoSheets.{first, second, IsSheet, ReadAs, SheetsRead, Both}
@@ -86,34 +85,22 @@ checks-are : (c : Call) → 8192 ≤ length (c .table) → meant.checks c ≡ sh
 unfolding meant.checks
 checks-are c h = rw (le-leb 8192 (length (c .table)) h) refl
 
--- every answer behind check 2 clears the table
-abbrev answered : Checked → Answer
-answered k = onChecked (λ S D. answer.Done (size S)) (λ refusal. refusal) k
-
-types-clear : (t : List ℕ) (S D : Datatype) (p q r : Bool)
-    → tableAfter (answered (require p answer.Path (require q answer.Symbols (require r answer.Room (passed S D))))) t ≡ cleared t
-types-clear t S D false q r = refl
-types-clear t S D true false r = refl
-types-clear t S D true true false = refl
-types-clear t S D true true true = refl
-
-sheets-clear : (ss ds : List ℕ) (n : ℕ) (t : List ℕ) → tableAfter (answered (sheetsChecked ss ds n)) t ≡ cleared t
-sheets-clear ss ds n t = go (sheetOf ss) (sheetOf ds)
-  where
-    go : (a b : Sheet) → tableAfter (answered (withSheet a answer.Source (λ S. withSheet b answer.Destination (λ D. typesChecked n S D)))) t ≡ cleared t
-    go (faultyAt k) b = refl
-    go (ofType S) (faultyAt k) = refl
-    go (ofType S) (ofType D) = types-clear t S D (hasPath S D) (keepsSymbols S D) (leb (size S) n)
+refusals-clear : (ss ds : List ℕ) (n : ℕ) (t : List ℕ) → Refusals (Clears t) (sheetsChecked ss ds n)
+refusals-clear ss ds n t =
+    sheets-clear t (sheetOf ss) (sheetOf ds) (typesChecked n)
+    (λ S D. require-refuses (Clears t) (hasPath S D) answer.Path _ (λ e. refl)
+    (require-refuses (Clears t) (keepsSymbols S D) answer.Symbols _ (λ e. refl)
+    (require-refuses (Clears t) (leb (size S) n) answer.Room (passed S D) (λ e. refl) tt)))
 
 pub reaches-all : (c : Call) (r : Answer) (out lent : List ℕ) → 8192 ≤ length (c .table) → length lent ≡ 8192
     → Leaves (c .mask) (sheetsChecked (c .sourceSheet) (c .destinationSheet) (length (c .mask))) r out
     → Reaches c r out (replicate 8192 0 ++ drop 8192 (lent ++ drop 8192 (c .table)))
-unfolding meant.answer meant.maskAfter cleared
+unfolding meant.answer meant.maskAfter
 reaches-all c r out lent h l leaves =
     record {
       answers = leaves .answers ∙ sym (rw (checks-are c h) refl);
       marks = leaves .marks ∙ sym (rw (checks-are c h) refl);
       clears =
-          ap (λ (x : List ℕ). replicate 8192 0 ++ x) (drop-at lent (drop 8192 (c .table)) 8192 l)
-          ∙ sym (ap (λ (a : Answer). tableAfter a (c .table)) (leaves .answers) ∙ sheets-clear (c .sourceSheet) (c .destinationSheet) (length (c .mask)) (c .table));
+          call-clears (c .table) (λ S D. answer.Done (size S)) (λ S D. refl) (sheetsChecked (c .sourceSheet) (c .destinationSheet) (length (c .mask))) lent
+          (refusals-clear (c .sourceSheet) (c .destinationSheet) (length (c .mask)) (c .table)) (leaves .answers) l;
     }

@@ -19,7 +19,7 @@ use Rattle.datatype.specs.SymbolSets.{keepsSymbols}
 use Rattle.datatype.proofs.Tests.{and-true, both}
 use Rattle.sheet.specs.Sheet.{Sheet, sheetOf}
 use Rattle.sheet.specs.Sheet.Sheet.{ofType, faultyAt}
-use Rattle.runs.specs.Run.{Form, Run, Checked, require, withSheet, hasRoom, checksOf, checks}
+use Rattle.runs.specs.Run.{Form, Run, Checked, require, withSheet, onChecked, hasRoom, checksOf, checks}
 use Rattle.runs.specs.Run.Form.{copying, inPlace}
 use Rattle.runs.specs.Run.Checked.{refused, passed}
 
@@ -148,6 +148,11 @@ module _ (P : Answer → Type 0) where
       → Refusals P (withSheet x a f)
   sheet-refuses (ofType T) a f h g = g T refl
   sheet-refuses (faultyAt k) a f h g = h k
+
+  -- what passes some checks goes to the next
+  pub next-refuses : (next : Datatype → Datatype → Checked) (c : Checked) → Refusals P c → ((S D : Datatype) → Refusals P (next S D)) → Refusals P (onChecked next refused c)
+  next-refuses next (refused a) h g = h
+  next-refuses next (passed S D) h g = g S D
 
 -- "Numbers of refusal, in the order of checks": those before STOP are 1 to 7; document 02, 2026-07: "12 SYMBOLS, between PATH and COUNT"
 abbrev pub Early : ℕ → Type 0

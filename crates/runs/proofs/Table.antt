@@ -4,12 +4,17 @@ use mathlib.Core.Logic.{_⊎_, inl, inr}
 use mathlib.Core.List.{List, _++_}
 use Prim.Native.Nat.{ℕ, _+_, _≤_}
 use native.Mathlib.Omega.{arith}
+use lib.Dec.{leb}
 use lib.ListN.{length, take, drop, replicate, length-append, length-drop, length-replicate}
 use lib.Seq.{take-at, drop-at, drop-drop}
 use Rattle.answer.specs.declared.Answer.{Answer}
 use Rattle.answer.specs.declared.Answer.the-variants.{Done, Handling, Table, Source, Destination, Path, Count, Room, Stop, Range, Channel, Full, Symbols}
 use Rattle.answer.specs.Answer.{numberOf}
-use Rattle.runs.specs.Run.{cleared, tableAfter}
+use Rattle.datatype.specs.Datatype.{Datatype, size}
+use Rattle.sheet.specs.Sheet.{Sheet}
+use Rattle.runs.specs.Run.{Form, Checked, withSheet, onChecked, hasRoom, recordChecks, cleared, tableAfter}
+use Rattle.runs.specs.Run.Checked.{refused, passed}
+use Rattle.runs.proofs.Checks.{Refusals, require-refuses, sheet-refuses}
 
 -- ---- n words cleared
 
@@ -44,6 +49,11 @@ module _ (t : List ℕ) where
   unfolding cleared
   half-cleared e h = ap (λ (l : List ℕ). replicate 8192 0 ++ l) (beyond 4096 4096 e h)
 
+  -- all of it came back as e, and then was cleared
+  pub whole-cleared : (e : List ℕ) → length e ≡ 8192 → replicate 8192 0 ++ drop 8192 (e ++ drop 8192 t) ≡ cleared t
+  unfolding cleared
+  whole-cleared e h = ap (λ (l : List ℕ). replicate 8192 0 ++ l) (drop-at e (drop 8192 t) 8192 h)
+
 -- ---- after which answers
 
 -- refused by check 1 or 2, or cleared
@@ -62,3 +72,30 @@ table-cases Range t = inr (inr (omega arith), refl)
 table-cases Channel t = inr (inr (omega arith), refl)
 table-cases Full t = inr (inr (omega arith), refl)
 table-cases Symbols t = inr (inr (omega arith), refl)
+
+-- ---- every answer behind check 2 clears the table
+
+abbrev pub Clears : List ℕ → Answer → Type 0
+Clears t a = tableAfter a t ≡ cleared t
+
+module _ (t : List ℕ) where
+  -- a faulty sheet, or what the checks of the types refuse
+  pub sheets-clear : (a b : Sheet) (next : Datatype → Datatype → Checked) → ((S D : Datatype) → Refusals (Clears t) (next S D))
+      → Refusals (Clears t) (withSheet a Source (λ S. withSheet b Destination (next S)))
+  sheets-clear a b next h =
+      sheet-refuses (Clears t) a Source _ (λ k. refl) (λ S s. sheet-refuses (Clears t) b Destination (next S) (λ k. refl) (λ D d. h S D))
+
+  pub records-clear : (form : Form) (n x y : ℕ) (S D : Datatype) → Refusals (Clears t) (recordChecks form n x y S D)
+  records-clear form n x y S D =
+      require-refuses (Clears t) (leb n 65536) Count _ (λ e. refl)
+      (require-refuses (Clears t) (hasRoom form n (size S) (size D) x y) Room (passed S D) (λ e. refl) tt)
+
+  module _ (f : Datatype → Datatype → Answer) (done : (S D : Datatype) → Clears t (f S D)) where
+    answer-clears : (c : Checked) → Refusals (Clears t) c → Clears t (onChecked f (λ refusal. refusal) c)
+    answer-clears (refused a) g = g
+    answer-clears (passed S D) g = done S D
+
+    -- a call that lends the table whole, and clears it whatever the answer
+    pub call-clears : (c : Checked) {r : Answer} (e : List ℕ) → Refusals (Clears t) c → r ≡ onChecked f (λ refusal. refusal) c → length e ≡ 8192
+        → replicate 8192 0 ++ drop 8192 (e ++ drop 8192 t) ≡ tableAfter r t
+    call-clears c e g is h = whole-cleared t e h ∙ sym (ap (λ (a : Answer). tableAfter a t) is ∙ answer-clears c g)
