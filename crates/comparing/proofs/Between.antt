@@ -190,8 +190,6 @@ module _ {x : Logs} {ss ws ds wd plan words : List ℕ} (first second : List ℕ
               record {
                 source = sound .source;
                 destination = sound .destination;
-                sourceRows = j .sourceRows k h;
-                destinationRows = j .destinationRows k h;
                 read = sound .read;
                 write = sound .write;
               };

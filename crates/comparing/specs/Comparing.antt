@@ -7,12 +7,12 @@ use lib.ListN.{length}
 use lib.IntN.{ℤ}
 use Rattle.number.specs.declared.Number.{Number}
 use Rattle.number.specs.Parts.{meaning}
-use Rattle.datatype.specs.Datatype.{Leaf, leafSize, Datatype}
+use Rattle.datatype.specs.Datatype.{Leaf, leafSize}
 use Rattle.datatype.specs.WellFormed.{WellFormedLeaf}
 use Rattle.records.specs.Leaf.{numberIn}
 use Rattle.records.specs.Plan.{Entry}
 use Rattle.plans.specs.declared.PlanEntry.{PlanEntry}
-use Rattle.plans.specs.PlanWords.{leafOfType, RowsWithin, entriesAt, Job}
+use Rattle.plans.specs.PlanWords.{leafOfType, entriesAt, Job}
 use Rattle.plans.specs.PlanEntries.{wordsAt}
 use Rattle.differences.specs.Same.{sameIn}
 use Rattle.differences.specs.Differences.{Difference, ofLeaf, inRecords, differences, lines, shown}
@@ -31,8 +31,6 @@ Says x y z w (Differ m n) = (sameIn x y z w ≡ false) × (meaning m ≡ z) × (
 pub record EntryFormed (s d : ℕ) (e : PlanEntry) (ss ws ds wd : List ℕ) : Type 0 where
   pub source : WellFormedLeaf (leafOfType ws ss (e .source))
   pub destination : WellFormedLeaf (leafOfType wd ds (e .destination))
-  pub sourceRows : RowsWithin ws (e .source)
-  pub destinationRows : RowsWithin wd (e .destination)
   pub read : e .from + leafSize (leafOfType ws ss (e .source)) ≤ s
   pub write : e .to + leafSize (leafOfType wd ds (e .destination)) ≤ d
 
