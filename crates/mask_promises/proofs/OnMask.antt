@@ -138,8 +138,7 @@ module _ (c : Call) (S D : Datatype) (m : Masked c S D) where
         ⊎-elim refused-effect (λ (e : checks r ≡ passed S D). on-significant-bits r q same S D types .enough (same-significant e agree) back)
         (refused-or-passes r S D types)
 
--- "sound: two sources that agree on the mask's bits in every record have the same effect", "tight: two runs done without an exception whose sources differ in some
--- bit of the mask have different converted bytes"
+-- the mask has bits enough, and none that a run without an exception would hide
 pub on-mask : (c : Call) (S D : Datatype) → Masked c S D → (r q : Run) → Converts c r → Converts c q → SameCall r q → OnMask c S D r q
 on-mask c S D m r q first second same =
     record {

@@ -40,12 +40,12 @@ zero-valued : (s : Bool) (p : ℕ) → valued s p 0 ≡ pos 0
 zero-valued false p = refl
 zero-valued true p = valued-low p 0 (pow-pos (p - 1))
 
--- "0 fits every range"
+-- 0 fits every range
 zero-fits : (s : Bool) (p : ℕ) → fittedTo s p (pos 0) .kind ≡ 0
 zero-fits false p = ap (λ (f : Fitted). f .kind) (unsigned-inside p 0 (omega arith))
 zero-fits true p = ap (λ (f : Fitted). f .kind) (signed-inside p 0 (omega arith))
 
--- "and is +0 as a real"
+-- and is +0 as a real
 zero-to-real : intToReal (pos 0) .kind ≡ 0
 unfolding intToReal magnitudeBits worth
 zero-to-real = refl

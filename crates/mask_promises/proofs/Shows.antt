@@ -131,7 +131,7 @@ module _ (c : Call) (S D : Datatype) (m : Masked c S D) (form : Form) (n : ℕ) 
               (sym (on-converts (w .first) (w .first-length)) ∙ e .1 ∙ on-converts (w .second) (w .second-length));
         }
 
--- "each bit of the mask does show: for every n from 1 to 65,536, every record below n and every bit of the mask"; a bit of n records says that n is at least 1
+-- each bit of the mask does show, in every record of every number of them; a bit of n records says that n is at least 1
 pub each-shows : (c : Call) (S D : Datatype) → Masked c S D → (form : Form) (n : ℕ) → n ≤ 65536 → (b : BitOf c S n) → ¬ (WithoutValue S D b)
     → Shows c S D form n b
 each-shows c S D m form n few b value =

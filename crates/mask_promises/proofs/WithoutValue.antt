@@ -194,7 +194,7 @@ module _ (c : Call) (S D : Datatype) (m : Masked c S D) (r q : Run) (first : Con
           cleared = λ d. same-tail r q same S D e d (sym (ap numberOf answers-alike) ∙ d);
         }
 
--- "the bits of a source enum without a value, where with handling 0 every number raises alike": sources that differ in such bits alone have the same effect
+-- with handling 0 every number of a source enum without a value raises alike, so sources that differ in its bits alone have the same effect
 pub without-value : (c : Call) (S D : Datatype) → Masked c S D → (r q : Run) → Converts c r → Converts c q → SameCall r q → r .handling ≡ 0
     → AgreeBesides c S D (r .count) (r .source) (q .source) → SameBackground D r q → SameEffect S D r q
 without-value c S D m r q first second same handling agree back =

@@ -17,7 +17,7 @@ AreBytes buffer = (j : ℕ) → getD buffer j 0 < 256
 pub record MaskBit (mask : List ℕ) (size n : ℕ) : Type 0 where
   pub index : ℕ
   pub byte : ℕ
-  pub at : ℕ  -- "bit 7 to 0 of that byte in memory"
+  pub at : ℕ  -- the bit of that byte as it lies in memory, 0 the lowest
   pub in-records : index < n
   pub in-record : byte < size
   pub in-byte : at < 8
@@ -27,11 +27,11 @@ pub record MaskBit (mask : List ℕ) (size n : ℕ) : Type 0 where
 abbrev pub bitAt : {mask : List ℕ} {size n : ℕ} → MaskBit mask size n → List ℕ → ℕ
 bitAt {size = size} b buffer = bit (b .at) (getD (recordAt size (b .index) buffer) (b .byte) 0)
 
--- "two sources that agree on the mask's bits in every record"
+-- two sources agree on the mask's bits in every record
 abbrev pub AgreeOnMask : List ℕ → ℕ → ℕ → List ℕ → List ℕ → Type 0
 AgreeOnMask mask size n p q = (b : MaskBit mask size n) → bitAt b p ≡ bitAt b q
 
--- "two sources that differ in that bit of that record alone": every other bit of every byte is the same
+-- two sources differ in that bit of that record alone: every other bit of every byte is the same
 pub record DifferOnlyIn {mask : List ℕ} {size n : ℕ} (b : MaskBit mask size n) (p q : List ℕ) : Type 0 where
   pub differ : ¬ (bitAt b p ≡ bitAt b q)
   pub others : (j k : ℕ) → ¬ ((j ≡ b .index * size + b .byte) × (k ≡ b .at)) → bit k (getD p j 0) ≡ bit k (getD q j 0)

@@ -1,5 +1,5 @@
--- Demand 1 for a call that asks which bits of the source show: which number it answers, and every field beside it. "checks 2, 3, 4, 5, 12, 7 (a mask buffer
--- under one source record)". There are no checks 1 and 6.
+-- Demand 1 for a call that asks which bits of the source show: which number it answers, and every field beside it. The checks are 2, 3, 4, 5, 12 and 7; there are
+-- no checks 1 and 6 (docs/DECISIONS.md, "Which bits of the source show").
 use mathlib.Core.Path.{_≡_}
 use mathlib.Core.Logic.{_↔_}
 use mathlib.Core.List.{List, [], _∷_}
@@ -42,7 +42,7 @@ Given c DESTINATION = (line : ℕ) × FirstFault (c .destinationSheet) line
 Given c PATH = OfTypes c (λ S D. ¬ (HasPath S D))
 -- document 02, 2026-07: a matched pair of enums, and a source symbol that does not stand in the destination
 Given c SYMBOLS = OfTypes c LostSymbol
--- "a mask buffer under one source record"
+-- a mask buffer under one source record
 Given c ROOM = OfTypes c (λ S D. length (c .mask) < size S)
 
 -- the order of checks
@@ -58,7 +58,7 @@ Fields c PATH v = v ≡ noField
 Fields c SYMBOLS v = v ≡ noField
 Fields c ROOM v = v ≡ noField
 
--- "done carries the mask's length, which is the source record's size, in place of the count"
+-- done carries the mask's length, which is the source record's size, in place of the count
 abbrev pub DoneFields : Call → Values → Type 0
 DoneFields c v = OfTypes c (λ S D. v ≡ onlyCount (size S))
 

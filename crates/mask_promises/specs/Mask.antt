@@ -20,9 +20,9 @@ pub record Masked (c : Call) (S D : Datatype) : Type 0 where
 -- what it leaves in the mask buffer
 pub record MaskBuffer (c : Call) : Type 0 where
   pub lengths : length (maskAfter c) ≡ length (c .mask)
-  -- "a refusal leaves the mask buffer"
+  -- a refusal leaves it as it was
   pub refusals : ¬ (answerNumber c ≡ 0) → maskAfter c ≡ c .mask
-  -- "byte j of the mask has exactly the bits .. that belong to significant bits of matched source leaves"
+  -- a bit of the mask is 1 exactly if it is a significant bit of a matched source leaf
   pub exactly : (S D : Datatype) → Masked c S D → (j q : ℕ) → j < size S → q < 8 → bit q (getD (maskAfter c) j 0) ≡ 1 ↔ Significant S D j q
-  -- "and bytes behind the mask never change"
+  -- and bytes behind the mask never change
   pub behind : (S D : Datatype) → Masked c S D → drop (size S) (maskAfter c) ≡ drop (size S) (c .mask)

@@ -1,4 +1,4 @@
--- What is promised of the mask that a call leaves, over whole calls that convert, in either form: "Which bits of the source could have changed your result?"
+-- What is promised of the mask that a call leaves, over whole calls that convert, in either form: its bits are those that could have changed a result.
 use mathlib.Core.Path.{_≡_}
 use mathlib.Core.List.{List}
 use Prim.Native.Nat.{ℕ}
@@ -22,9 +22,9 @@ abbrev pub BitOf : Call → Datatype → ℕ → Type 0
 BitOf c S n = MaskBit (maskAfter c) (size S) n
 
 pub record OnMask (c : Call) (S D : Datatype) (r q : Run) : Type 0 where
-  -- "sound: two sources that agree on the mask's bits in every record have the same effect (answer, converted bytes, cleared tail) over the same background"
+  -- sound: two sources that agree on the mask's bits in every record have the same effect (answer, converted bytes, cleared tail) over the same background
   pub sound : AgreeOnMask (maskAfter c) (size S) (r .count) (r .source) (q .source) → SameBackground D r q → SameEffect S D r q
-  -- "tight: two runs done without an exception whose sources differ in some bit of the mask have different converted bytes"
+  -- tight: two runs done without an exception whose sources differ in some bit of the mask have different converted bytes
   pub tight : DoneWithoutException r → DoneWithoutException q → (b : BitOf c S (r .count)) → ¬ (bitAt b (r .source) ≡ bitAt b (q .source))
       → ¬ (SameConverted D r q)
 
@@ -44,8 +44,8 @@ runOn c form n background table source =
       table = table;
     }
 
--- "there are two sources that differ in that bit of that record alone whose runs with handling 0, in either form, are done and differ in count or in
--- converted bytes": over one background, with one table
+-- there are two sources that differ in that bit of that record alone whose runs with handling 0, over one background and with one table, are done and differ in
+-- count or in converted bytes
 pub record Shows (c : Call) (S D : Datatype) (form : Form) (n : ℕ) (b : BitOf c S n) : Type 0 where
   pub first : List ℕ
   pub second : List ℕ
@@ -60,10 +60,10 @@ pub record Shows (c : Call) (S D : Datatype) (form : Form) (n : ℕ) (b : BitOf 
   pub shows : ¬ ((answerFields (runOn c form n background table first) .count ≡ answerFields (runOn c form n background table second) .count)
       × SameConverted D (runOn c form n background table first) (runOn c form n background table second))
 
--- "The one exception, stated as such: the bits of a source enum without a value"
+-- the one exception: a bit of a source enum without a value
 abbrev pub WithoutValue : (S D : Datatype) {mask : List ℕ} {n : ℕ} → MaskBit mask (size S) n → Type 0
 WithoutValue S D b = (s : Significant S D (b .byte) (b .at)) × NoValue (s .source)
 
--- "where with handling 0 every number raises alike": sources that agree on every other bit of the mask
+-- two sources agree on every other bit of the mask; the numbers of an enum without a value all raise alike with handling 0
 abbrev pub AgreeBesides : Call → Datatype → Datatype → ℕ → List ℕ → List ℕ → Type 0
 AgreeBesides c S D n p q = (b : BitOf c S n) → ¬ (WithoutValue S D b) → bitAt b p ≡ bitAt b q

@@ -114,7 +114,7 @@ module _ (S D : Datatype) (f : WellFormed S) (g : WellFormed D) where
   unfolding mask
   whole = from-marks 0 (size D) zeros (length-replicate {A = ℕ} (size S) 0) (λ j. rw (zero-at j) (omega arith))
 
-  -- "byte j of the mask has exactly the bits .. that belong to significant bits of matched source leaves"
+  -- the mask has exactly the significant bits of the matched source leaves
   pub says : Says S D
   says =
       record {

@@ -1,5 +1,5 @@
--- The teacher's question, "which bits of the source could have changed your result?", answered for two datatypes: a mask as long as a source record, whose bits
--- that are one are the significant bits of the matched source leaves.
+-- Which bits of the source could have changed a result, for two datatypes: a mask as long as a source record, whose bits that are one are the significant bits of
+-- the matched source leaves.
 use mathlib.Core.List.{List}
 use Prim.Native.Nat.{ℕ, zero, suc, _-_, _^_}
 use lib.ListN.{replicate}

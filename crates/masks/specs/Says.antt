@@ -30,8 +30,8 @@ pub record Significant (S D : Datatype) (j q : ℕ) : Type 0 where
   pub bit : q ≡ at % 8
 
 pub record Says (S D : Datatype) : Type 0 where
-  -- "The mask is one source record long."
+  -- the mask is one source record long
   pub long : length (mask S D) ≡ size S
-  -- "byte j of the mask has exactly the bits .. that belong to significant bits of matched source leaves": a bit is 1 or 0
+  -- and has exactly the significant bits of the matched source leaves
   pub exactly : (j q : ℕ) → j < size S → q < 8 → bit q (getD (mask S D) j 0) ≡ 1 ↔ Significant S D j q
   pub bytes : (j : ℕ) → getD (mask S D) j 0 < 256

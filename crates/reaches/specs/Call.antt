@@ -1,4 +1,5 @@
--- A whole call that asks which bits of a source record a conversion can turn on, from everything that is lent to the answer and the mask afterwards.
+-- A whole call that asks which bits of a source record a conversion can turn on, from everything that is lent to the answer and the mask afterwards. No document
+-- asks for it: docs/DECISIONS.md, "Which bits of the source show", has what was decided.
 use mathlib.Core.Path.{_≡_}
 use mathlib.Core.List.{List, _++_}
 use Prim.Native.Nat.{ℕ}
@@ -21,7 +22,7 @@ pub record Call : Type 0 where
   pub mask : List ℕ
   pub table : List ℕ
 
--- "checks 2, 3, 4, 5, 12, 7 (a mask buffer under one source record)"
+-- checks 5, 12 and 7, of a mask buffer that has less than one source record
 abbrev pub typeChecks : Call → Datatype → Datatype → Checked
 typeChecks c S D =
     require (hasPath S D) Path (require (keepsSymbols S D) Symbols (require (leb (size S) (length (c .mask))) Room (passed S D)))
@@ -31,11 +32,11 @@ checks c =
     require (leb 8192 (length (c .table))) Table
     (withSheet (sheetOf (c .sourceSheet)) Source (λ S. withSheet (sheetOf (c .destinationSheet)) Destination (λ D. typeChecks c S D)))
 
--- "done carries the mask's length, which is the source record's size, in place of the count"
+-- done carries the mask's length, which is the source record's size, in place of the count
 unfoldable pub answer : Call → Answer
 answer c = onChecked (λ S D. Done (size S)) (λ refusal. refusal) (checks c)
 
--- "a refusal leaves the mask buffer, and bytes behind the mask never change"
+-- a refusal leaves the mask buffer, and bytes behind the mask never change
 unfoldable pub maskAfter : Call → List ℕ
 maskAfter c = onChecked (λ S D. masks.mask S D ++ drop (size S) (c .mask)) (λ refusal. c .mask) (checks c)
 
