@@ -3,6 +3,7 @@
 use crate::compare_run::{CompareRun, expected};
 use crate::compares::read;
 use crate::convert::with_types;
+use crate::refusals::{Refusals, is_short};
 use crate::run::Seen;
 use crate::tally::Tally;
 use independent::call::part;
@@ -233,31 +234,21 @@ fn note_short(tally: &mut Tally, run: &CompareRun, from: u64, to: u64) {
     }
 }
 
-/// Notes pairs of checks that would both refuse, so that their order shows.
+/// Notes pairs of checks that would both refuse.
 fn note_checks(tally: &mut Tally, run: &CompareRun) {
     let (from, to) = (
-        sheet::read(&run.first_sheet),
-        sheet::read(&run.second_sheet),
+        sheet::read(&run.first_sheet).ok(),
+        sheet::read(&run.second_sheet).ok(),
     );
-    let mut refuses = [false; 8];
-    refuses[2] = run.table.len() < 8192;
-    refuses[3] = from.is_err();
-    refuses[4] = to.is_err();
-    refuses[6] = run.count > 65_536;
-    if let (Ok(from), Ok(to)) = (from, to) {
-        refuses[5] = !paths::has_path(&from, &to);
+    let table = run.table.len();
+    let mut refusals = Refusals::of(table, from.as_deref(), to.as_deref(), run.count);
+    if let (Some(from), Some(to)) = (from, to) {
         let second = if run.is_one { &run.first } else { &run.second };
-        let short =
-            |have: usize, size: u64| (have as u128) < u128::from(run.count) * u128::from(size);
-        refuses[7] = short(run.first.len(), from.size()) || short(second.len(), to.size());
+        let first_short = is_short(run.first.len(), run.count, from.size());
+        let second_short = is_short(second.len(), run.count, to.size());
+        refusals.add(7, first_short || second_short);
     }
-    for first in 1..8 {
-        for second in first + 1..8 {
-            if refuses[first] && refuses[second] {
-                tally.saw(&format!("compare, {first} and {second} at once"));
-            }
-        }
-    }
+    refusals.note(tally, "compare, ");
 }
 
 fn note_leaves(

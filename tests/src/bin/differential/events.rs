@@ -1,12 +1,12 @@
 //! Notes what a run has met.
 
 use crate::real_events;
+use crate::refusals::{Refusals, is_short};
 use crate::run::{Run, Seen};
 use crate::stop_events;
 use crate::symbol_events;
 use crate::tally::Tally;
 use independent::datatype::Datatype;
-use independent::paths;
 use independent::sheet;
 use independent::symbols::keeps_symbols;
 
@@ -57,22 +57,18 @@ fn note_sizes(tally: &mut Tally, run: &Run, number: u64) {
     }
 }
 
-/// Notes pairs of checks that would both refuse, so that their order shows.
+/// Notes pairs of checks that would both refuse.
 fn note_pairs(tally: &mut Tally, run: &Run) {
     let (from, to) = (
-        sheet::read(&run.source_sheet),
-        sheet::read(&run.destination_sheet),
+        sheet::read(&run.source_sheet).ok(),
+        sheet::read(&run.destination_sheet).ok(),
     );
-    let mut refuses = [false; 13];
-    refuses[1] = !run.form.is_plain() && run.handling > 1;
-    refuses[2] = run.table.len() < 8192;
-    refuses[3] = from.is_err();
-    refuses[4] = to.is_err();
-    refuses[6] = run.count > 65_536;
-    if let (Ok(from), Ok(to)) = (from, to) {
-        refuses[5] = !paths::has_path(&from, &to);
-        refuses[12] = !keeps_symbols(&from, &to);
-        if refuses[5] && reshaped(&from, &to) {
+    let table = run.table.len();
+    let mut refusals = Refusals::of(table, from.as_deref(), to.as_deref(), run.count);
+    refusals.add(1, !run.form.is_plain() && run.handling > 1);
+    if let (Some(from), Some(to)) = (from, to) {
+        refusals.add(12, !keeps_symbols(&from, &to));
+        if refusals.has(5) && reshaped(&from, &to) {
             tally.saw("arrays of one total and other dimensions");
         }
         let longer = if run.form.is_copying() {
@@ -80,17 +76,11 @@ fn note_pairs(tally: &mut Tally, run: &Run) {
         } else {
             from.size().max(to.size())
         };
-        let short =
-            |have: usize, size: u64| (have as u128) < u128::from(run.count) * u128::from(size);
-        refuses[7] = short(run.first.len(), longer) || short(run.second.len(), to.size());
+        let first_short = is_short(run.first.len(), run.count, longer);
+        let second_short = is_short(run.second.len(), run.count, to.size());
+        refusals.add(7, first_short || second_short);
     }
-    for first in 1..13 {
-        for second in first + 1..13 {
-            if refuses[first] && refuses[second] {
-                tally.saw(&format!("{first} and {second} at once"));
-            }
-        }
-    }
+    refusals.note(tally, "");
 }
 
 /// Whether arrays on the same way have as many elements in other dimensions.

@@ -26,6 +26,7 @@ mod random;
 mod reaches;
 mod real_events;
 mod records;
+mod refusals;
 mod report_events;
 mod report_laws;
 mod report_run;

@@ -366,6 +366,20 @@ impl Setting<'_> {
         (one, other)
     }
 
+    /// What is seen of two sources, and the second one's run.
+    fn run_two(
+        &self,
+        random: &mut Random,
+        (form, handling): (Form, u32),
+        (one, other): &(Vec<u8>, Vec<u8>),
+        background: &[u8],
+    ) -> Result<(Seen, Seen, Run), String> {
+        let run = self.run(form, handling, other, background);
+        let seen = run::both(random, &self.run(form, handling, one, background))?;
+        let again = run::both(random, &run)?;
+        Ok((seen, again, run))
+    }
+
     fn witness(
         &self,
         random: &mut Random,
@@ -373,13 +387,11 @@ impl Setting<'_> {
         pair: &Match,
         at: (u64, u64, u64),
     ) -> Result<(), String> {
-        let (one, other) = self.two(random, pair, at);
+        let sources = self.two(random, pair, at);
         let form = *random.pick(&FORMS);
         let converted = (self.to.size() * at.1) as usize;
         let background = random.bytes(converted);
-        let run = self.run(form, 0, &other, &background);
-        let seen = run::both(random, &self.run(form, 0, &one, &background))?;
-        let again = run::both(random, &run)?;
+        let (seen, again, run) = self.run_two(random, (form, 0), &sources, &background)?;
         let are_done = seen.answer[0] == 0 && again.answer[0] == 0;
         check(are_done, "a witness is refused", &run)?;
         let in_bytes = seen.written[..converted] != again.written[..converted];
@@ -426,18 +438,16 @@ impl Setting<'_> {
         pair: &Match,
         at: (u64, u64, u64),
     ) -> Result<(), String> {
-        let (mut one, mut other) = self.two(random, pair, at);
+        let mut sources = self.two(random, pair, at);
         let background = random.bytes((self.to.size() * at.1) as usize);
         let form = *random.pick(&FORMS);
-        let run = self.run(form, 0, &other, &background);
-        let seen = run::both(random, &self.run(form, 0, &one, &background))?;
-        let again = run::both(random, &run)?;
+        let (seen, again, run) = self.run_two(random, (form, 0), &sources, &background)?;
         let same = (seen.answer, &seen.written) == (again.answer, &again.written);
         check(same, "an enum without a value shows", &run)?;
         tally.saw("witness: an enum without a value is hidden");
 
         // Every other leaf fits: an enum has the number of its first symbol.
-        for bytes in [&mut one, &mut other] {
+        for bytes in [&mut sources.0, &mut sources.1] {
             for record in bytes.chunks_mut(self.from.size() as usize) {
                 for enumerated in self.matches {
                     if let Datatype::Enum { values, .. } = enumerated.from.datatype {
@@ -447,9 +457,7 @@ impl Setting<'_> {
             }
         }
         let form = *random.pick(&[Form::Copying, Form::InPlace]);
-        let run = self.run(form, 1, &other, &background);
-        let seen = run::both(random, &self.run(form, 1, &one, &background))?;
-        let again = run::both(random, &run)?;
+        let (seen, again, run) = self.run_two(random, (form, 1), &sources, &background)?;
         let are_stopped = seen.answer[0] == 8 && again.answer[0] == 8;
         check(are_stopped, "an enum without a value raises nothing", &run)?;
         let enums = self.matches.iter().filter(|pair| without_value(pair));

@@ -2,6 +2,7 @@
 
 use crate::held::MOST;
 use crate::real_events;
+use crate::refusals::{Refusals, is_short};
 use crate::report_run::{ReportRun, ReportSeen, expected};
 use crate::symbol_events;
 use crate::tally::Tally;
@@ -132,45 +133,28 @@ fn note_full(tally: &mut Tally, run: &ReportRun, to: &Datatype) {
     saw(memory[RECORDS] == past, "one record too many");
 }
 
-/// Notes pairs of checks that would both refuse, so that their order shows.
+/// Notes pairs of checks that would both refuse.
 fn note_pairs(tally: &mut Tally, run: &ReportRun, from: Option<&Datatype>, to: Option<&Datatype>) {
-    let mut refuses = vec![
-        (2, run.table.len() < 8192),
-        (3, from.is_none()),
-        (4, to.is_none()),
-        (6, run.count > 65_536),
-    ];
+    let mut refusals = Refusals::of(run.table.len(), from, to, run.count);
     if let Some(to) = to {
         let mut leaves = int_leaves(to);
         let needed = words(leaves.len());
         leaves.retain(|leaf| number::layout(leaf.datatype).precision > 32);
-        refuses.push((10, !leaves.is_empty()));
+        refusals.add(10, !leaves.is_empty());
         if let Some(from) = from {
-            refuses.push((5, !paths::has_path(from, to)));
-            refuses.push((12, !keeps_symbols(from, to)));
-            let short =
-                |have: usize, size: u64| (have as u128) < u128::from(run.count) * u128::from(size);
-            let is_short = short(run.log.len(), from.size().max(to.size()))
-                || short(run.background.len(), to.size())
+            refusals.add(12, !keeps_symbols(from, to));
+            let longer = from.size().max(to.size());
+            let is_short = is_short(run.log.len(), run.count, longer)
+                || is_short(run.background.len(), run.count, to.size())
                 || run.memory.len() < needed;
-            refuses.push((7, is_short));
+            refusals.add(7, is_short);
         }
         if run.memory.len() >= needed && run.count < 1 << 62 {
-            refuses.push((11, is_full(&run.memory[..needed], run.count)));
+            refusals.add(11, is_full(&run.memory[..needed], run.count));
         }
     }
-    let refused: Vec<u64> = refuses
-        .iter()
-        .filter(|check| check.1)
-        .map(|check| check.0)
-        .collect();
-    for (i, first) in refused.iter().enumerate() {
-        for second in &refused[i + 1..] {
-            let (low, high) = (first.min(second), first.max(second));
-            tally.saw(&format!("report, {low} and {high} at once"));
-        }
-    }
-    if refused == [11] && run.output.len() < 30 {
+    refusals.note(tally, "report, ");
+    if refusals.are(&[11]) && run.output.len() < 30 {
         tally.saw("report, 11 and a short output at once");
     }
 }
