@@ -3,14 +3,14 @@
 from __future__ import annotations
 
 import sys
-from typing import IO, TYPE_CHECKING, Any, Union, cast
+from typing import TYPE_CHECKING, Any, Union, cast
 
 from . import sheets
-from ._buffers import ReadableBuffer, Sheet
+from ._buffers import Sheet
 from .calls import Handling, record_size
 from .errors import Refusal, quoted
 from .layout import Order, Sign
-from .log import Path, convert_log_parts
+from .log import LogSource, convert_log_parts
 
 if TYPE_CHECKING:
     import numpy
@@ -135,7 +135,7 @@ def convert_to_array(
     source_sheet: Sheet,
     destination: Union[Sheet, numpy.dtype[Any]],
     handling: Handling,
-    source: Union[Path, IO[bytes], ReadableBuffer],
+    source: LogSource,
 ) -> tuple[numpy.ndarray[Any, Any], int]:
     """Converts all records of a log into a new array, over a background of zeros. Gives the array, and how many leaves raised an exception.
 

@@ -2,13 +2,13 @@
 
 from __future__ import annotations
 
-from typing import IO, Any, Iterator, NamedTuple, Optional, Union
+from typing import Any, Iterator, NamedTuple, Optional, Union
 
 from . import _explain, _library, sheets
-from ._buffers import Held, ReadableBuffer, Sheet, sheet_bytes
+from ._buffers import Held, Sheet, sheet_bytes
 from .calls import record_size
 from .errors import Number, double
-from .log import PART_BYTES, PART_RECORDS, Log, Path, Where, opened, whole_records
+from .log import PART_BYTES, PART_RECORDS, Log, LogSource, Where, opened, whole_records
 
 # The room for the list of one call, at first and at most. The latter holds a line for each leaf of a record, of which there are at most 4,096.
 _LIST_BYTES, _MOST_LIST_BYTES = 1 << 16, 1 << 20
@@ -45,8 +45,8 @@ class Difference(NamedTuple):
 def compare(
     first_sheet: Sheet,
     second_sheet: Sheet,
-    first: Union[Path, IO[bytes], ReadableBuffer],
-    second: Union[Path, IO[bytes], ReadableBuffer],
+    first: LogSource,
+    second: LogSource,
 ) -> list[Difference]:
     """Each leaf where two logs of as many records differ, by record and then by byte.
 
@@ -66,8 +66,8 @@ def compare(
 def differences(
     first_sheet: Sheet,
     second_sheet: Sheet,
-    first: Union[Path, IO[bytes], ReadableBuffer],
-    second: Union[Path, IO[bytes], ReadableBuffer],
+    first: LogSource,
+    second: LogSource,
 ) -> Iterator[Difference]:
     """The same one after the other, as they are found: a few megabytes are held, however long the logs are and however many differences they have.
 

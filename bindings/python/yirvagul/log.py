@@ -18,6 +18,9 @@ from .errors import Number, Refusal, Short
 
 Path = Union[str, os.PathLike[str]]
 
+LogSource = Union[Path, IO[bytes], ReadableBuffer]
+"""A log that is read: a path, a binary file or a buffer."""
+
 PART_BYTES = 1 << 20
 """The most bytes of records that a part has, before or after conversion."""
 
@@ -38,7 +41,7 @@ def convert_log(
     source_sheet: Sheet,
     destination_sheet: Sheet,
     handling: Handling,
-    source: Union[Path, IO[bytes], ReadableBuffer],
+    source: LogSource,
     destination: Union[Path, IO[bytes], WriteableBuffer],
 ) -> int:
     """Converts all records of a log, however many. Gives how many leaves raised an exception.
@@ -66,7 +69,7 @@ def convert_log_parts(
     source_sheet: Sheet,
     destination_sheet: Sheet,
     handling: Handling,
-    source: Union[Path, IO[bytes], ReadableBuffer],
+    source: LogSource,
 ) -> Iterator[Part]:
     """Converts a log and hands out its parts as they come, for a progress bar, or to send them on.
 

@@ -6,13 +6,13 @@ import ctypes
 import struct
 import threading
 import zlib
-from typing import IO, Any, NamedTuple, Optional, Sequence, Union
+from typing import Any, NamedTuple, Optional, Sequence, Union
 
 from . import _explain, _library, sheets
 from ._buffers import Held, ReadableBuffer, Sheet, WriteableBuffer, sheet_bytes
 from .calls import Handling, record_size
 from .errors import Number, Refusal
-from .log import Job, Path, opened
+from .log import Job, LogSource, opened
 
 # A report's words: the records of all logs, their exceptions, then four for each int leaf.
 _RECORDS, _EXCEPTIONS, _LEAVES, _LEAF_WORDS = 0, 1, 2, 4
@@ -78,7 +78,7 @@ class Report:
         text = _read(sheet, (0,) * (_LEAVES + _LEAF_WORDS * _MOST_LEAVES))
         self._sheet, self._said, self._lock = sheet, _Said((0,) * _needed(text), text), threading.Lock()
 
-    def add(self, source_sheet: Sheet, log: Union[Path, IO[bytes], ReadableBuffer]) -> Summary:
+    def add(self, source_sheet: Sheet, log: LogSource) -> Summary:
         """Adds a log of any length, whose records are of its own sheet, and gives what the report then says.
 
         The log is a path, a binary file, read from where it stands to its end, or a buffer, which is only read. Its length is a multiple of the
