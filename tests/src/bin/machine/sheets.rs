@@ -1,9 +1,8 @@
 //! Sheets of one line: an int or a real.
 
 use crate::random::Random;
-use independent::datatype::{Atomic, Order, Pad};
-
-const REAL_BYTES: u64 = 8;
+use independent::datatype::{Atomic, Datatype, Order, Pad};
+use independent::number;
 
 pub fn order(random: &mut Random) -> Order {
     *random.pick(&[Order::LittleEndian, Order::BigEndian])
@@ -49,17 +48,9 @@ pub fn int_line(layout: &Atomic) -> String {
 }
 
 pub fn real_line(order: Order) -> String {
-    format!("real\t{REAL_BYTES}\t{}\n", word(order))
+    format!("real\t8\t{}\n", word(order))
 }
 
 pub fn real_layout(order: Order) -> Atomic {
-    Atomic {
-        size: REAL_BYTES,
-        order,
-        offset: 0,
-        precision: 64,
-        lsb: Pad::Zero,
-        msb: Pad::Zero,
-        signed: false,
-    }
+    *number::layout(&Datatype::real(order))
 }
