@@ -72,5 +72,5 @@ STACK_BYTES = 163840
 """The most that any call takes of its thread's stack."""
 
 SMALL_STACK_BYTES = 49152
-"""The most that a call takes where the destination record, or the second log's, has at most 128 bytes, and where it has no records; `reach`
-says its own."""
+"""The most that a call takes that converts, reports or compares where the destination record (the reader's, the second log's) has at most 128 bytes; and
+a call that does none of these, as `reach`."""

@@ -67,8 +67,8 @@ pub const COMPARE_LINE_BYTES: usize = 53;
 /// The most bytes that any call takes of its thread's stack.
 pub const STACK_BYTES: usize = 163_840;
 
-/// The most that a call takes where the destination record, or the second log's, has at most 128 bytes, and where it has no records; [`Converter::reach`]
-/// says its own.
+/// The most that a call takes that converts, reports or compares where the destination record (the reader's, the second log's) has at most 128 bytes; and a
+/// call that does none of these, as [`Converter::reach`].
 pub const SMALL_STACK_BYTES: usize = 49_152;
 
 /// What to do with numbers that do not fit.
