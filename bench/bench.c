@@ -1,271 +1,30 @@
-// Times the copying and the in-place form, and HDF5's H5Tconvert where it is there (-DWITH_HDF5), on the same bytes, interleaved in one run; and the report
-// beside the in-place form, and the comparison of a log and its conversion beside the copying form, likewise. HDF5 follows document 01 on these workloads: a byte that differs ends the run with status 1.
-#include "../include/yirvagul.h"
+// Times the copying and the in-place form, HDF5's H5Tconvert where it is there (-DWITH_HDF5), numpy where a driver lends it, and plain C loops, on the same bytes and round
+// by round in one process; the report beside the in-place form, and the comparison of a log and its conversion beside the copying form, likewise. Times are the thread's
+// processor time. Where a peer follows the same rules, a byte that differs from ours ends the run with status 1.
+#include "bench.h"
 #include <stdio.h>
 #include <stdlib.h>
 #include <string.h>
 #include <time.h>
-#ifdef WITH_HDF5
-#include <hdf5.h>
-#else
-typedef int hid_t;
-#endif
 
-enum { RECORDS = 65536, CALLS = 2000, ROUNDS_MOST = 101, QUARTERS = -1 };
+enum { ROUNDS = 15, ROUNDS_MOST = 101, WIDE = 100 };
 
-// One side of a workload: its sheet, the size of its record, and HDF5's datatype.
-typedef struct {
-    char sheet[16384];
-    int types, size;
-    hid_t h5;
-} Side;
+// ---- what is timed: so many calls of so many records, one call behind the other
 
 typedef struct {
-    const char *name;
-    size_t records;      // of a call
-    int calls;           // timed together
-    int leaves;          // matched leaves of a record
-    const char *target;  // HDF5's time by that of the copying form; of a report, its own by that of the in-place form; of a comparison, its own by that of the copying form
-    int largest;         // source bytes are random, from 0 up to this; QUARTERS: doubles, random quarters that 16 bits hold once the fraction is dropped
-    Side source, destination;
-} Workload;
-
-typedef struct {
-    int size, big, offset, precision, is_signed;
-} Int;
-
-// ---- datatypes, as lines of a sheet and as HDF5's; each returns the type's number
-
-static void add(Side *s, const char *line) { strcat(strcat(s->sheet, line), "\n"); }
-
-static int add_int(Side *s, Int l) {
-    char line[128];
-    snprintf(line, sizeof line, "int\t%d\t%s\t%d\t%d\tzero\tzero\t%s", l.size, l.big ? "BE" : "LE", l.offset, l.precision, l.is_signed ? "signed" : "unsigned");
-    add(s, line);
-    s->size = l.size;
-#ifdef WITH_HDF5
-    s->h5 = H5Tcopy(l.is_signed ? H5T_STD_I64LE : H5T_STD_U64LE);
-    H5Tset_precision(s->h5, (size_t)l.precision);
-    H5Tset_size(s->h5, (size_t)l.size);
-    H5Tset_offset(s->h5, (size_t)l.offset);
-    H5Tset_order(s->h5, l.big ? H5T_ORDER_BE : H5T_ORDER_LE);
-#endif
-    return s->types++;
-}
-
-static int add_real(Side *s, int big) {
-    add(s, big ? "real\t8\tBE" : "real\t8\tLE");
-    s->size = 8;
-#ifdef WITH_HDF5
-    s->h5 = H5Tcopy(big ? H5T_IEEE_F64BE : H5T_NATIVE_DOUBLE);
-#endif
-    return s->types++;
-}
-
-static int add_array(Side *s, int base, int n) {
-    char line[64];
-    snprintf(line, sizeof line, "array\t%d\t%d", base, n);
-    add(s, line);
-    s->size *= n;
-#ifdef WITH_HDF5
-    hsize_t dims[1] = {(hsize_t)n};
-    s->h5 = H5Tarray_create2(s->h5, 1, dims);
-#endif
-    return s->types++;
-}
-
-// 16 symbols, numbered from `first` on by `step`.
-static int add_enum(Side *s, Int l, int first, int step) {
-    char line[64];
-    snprintf(line, sizeof line, "enum\t%d", add_int(s, l));
-    add(s, line);
-#ifdef WITH_HDF5
-    hid_t base = s->h5;
-    s->h5 = H5Tenum_create(base);
-#endif
-    for (int i = 0; i < 16; i++) {
-        snprintf(line, sizeof line, "value\ts%d\t%d", i, first + step * i);
-        add(s, line);
-#ifdef WITH_HDF5
-        int value = first + step * i;
-        unsigned char bytes[8] = {0};
-        memcpy(bytes, &value, sizeof value);
-        H5Tconvert(H5T_NATIVE_INT, base, 1, bytes, NULL, H5P_DEFAULT);
-        snprintf(line, sizeof line, "s%d", i);
-        H5Tenum_insert(s->h5, line, bytes);
-#endif
-    }
-    return s->types++;
-}
-
-// The members stand one behind the other; member i is called m and names[i], or i, and has type i of the n that were made.
-static void add_compound(Side *s, int n, const int *types, const int *sizes, const hid_t *h5, const int *names) {
-    char line[64];
-    int size = 0, at = 0;
-    for (int i = 0; i < n; i++)
-        size += sizes[i];
-    snprintf(line, sizeof line, "comp\t%d", size);
-    add(s, line);
-    s->types++;
-    s->size = size;
-#ifdef WITH_HDF5
-    s->h5 = H5Tcreate(H5T_COMPOUND, (size_t)size);
-#endif
-    for (int i = 0; i < n; i++) {
-        char name[16];
-        snprintf(name, sizeof name, "m%d", names ? names[i] : i);
-        snprintf(line, sizeof line, "member\t%s\t%d\t%d", name, at, types[i]);
-        add(s, line);
-#ifdef WITH_HDF5
-        H5Tinsert(s->h5, name, (size_t)at, h5[i]);
-#else
-        (void)h5;
-#endif
-        at += sizes[i];
-    }
-}
-
-static void add_ints(Side *s, int n, const Int *members, const int *names) {
-    int types[64], sizes[64];
-    hid_t h5[64];
-    for (int i = 0; i < n; i++) {
-        types[i] = add_int(s, members[i]);
-        sizes[i] = s->size;
-        h5[i] = s->h5;
-    }
-    add_compound(s, n, types, sizes, h5, names);
-}
-
-static void add_reals(Side *s, int n, int big) {
-    int types[64], sizes[64];
-    hid_t h5[64];
-    for (int i = 0; i < n; i++) {
-        types[i] = add_real(s, big);
-        sizes[i] = s->size;
-        h5[i] = s->h5;
-    }
-    add_compound(s, n, types, sizes, h5, NULL);
-}
-
-// ---- workloads
-
-static void whole_bytes(Workload *w) {
-    static const Int from[8] = {{1, 0, 0, 8, 0}, {2, 0, 0, 16, 1}, {4, 1, 0, 32, 0}, {2, 1, 0, 16, 1}, {4, 0, 0, 32, 1}, {1, 0, 0, 8, 1}, {2, 0, 0, 16, 0}, {4, 0, 0, 32, 0}};
-    static const Int to[8] = {{4, 0, 0, 32, 0}, {4, 0, 0, 32, 1}, {8, 0, 0, 64, 0}, {8, 1, 0, 64, 1}, {8, 0, 0, 64, 1}, {2, 0, 0, 16, 1}, {4, 1, 0, 32, 0}, {8, 0, 0, 64, 0}};
-    add_ints(&w->source, 8, from, NULL);
-    add_ints(&w->destination, 8, to, NULL);
-}
-
-// The ints that a report takes have at most 32 bits.
-static void whole_bytes_of_32(Workload *w) {
-    static const Int from[8] = {{1, 0, 0, 8, 0}, {2, 0, 0, 16, 1}, {4, 1, 0, 32, 0}, {2, 1, 0, 16, 1}, {4, 0, 0, 32, 1}, {1, 0, 0, 8, 1}, {2, 0, 0, 16, 0}, {4, 0, 0, 32, 0}};
-    static const Int to[8] = {{4, 0, 0, 32, 0}, {4, 0, 0, 32, 1}, {4, 0, 0, 32, 0}, {4, 1, 0, 32, 1}, {4, 1, 0, 32, 1}, {2, 0, 0, 16, 1}, {4, 1, 0, 32, 0}, {4, 1, 0, 32, 0}};
-    add_ints(&w->source, 8, from, NULL);
-    add_ints(&w->destination, 8, to, NULL);
-}
-
-// Half of the numbers of each member are above or below the destination's range.
-static void clamped(Workload *w) {
-    Int from[8], to[8];
-    for (int i = 0; i < 8; i++) {
-        from[i] = (Int){2, i % 2, 0, 16, i % 4 < 2};
-        to[i] = (Int){2, 0, 0, 15, i % 4 < 2};
-    }
-    add_ints(&w->source, 8, from, NULL);
-    add_ints(&w->destination, 8, to, NULL);
-}
-
-static void twelve_bits(Workload *w) {
-    Int from[8], to[8];
-    for (int i = 0; i < 8; i++) {
-        from[i] = (Int){2, 1, 4, 12, i % 2};
-        to[i] = (Int){4, 0, 0, 32, i % 2};
-    }
-    add_ints(&w->source, 8, from, NULL);
-    add_ints(&w->destination, 8, to, NULL);
-}
-
-static void turned_twelve_bits(Workload *w) {
-    Int from[8], to[8];
-    for (int i = 0; i < 8; i++) {
-        from[i] = (Int){2, 1, 4, 12, i % 2};
-        to[i] = (Int){2, 0, 4, 12, i % 2};
-    }
-    add_ints(&w->source, 8, from, NULL);
-    add_ints(&w->destination, 8, to, NULL);
-}
-
-static void twelve_bits_to_reals(Workload *w) {
-    Int from[8];
-    for (int i = 0; i < 8; i++)
-        from[i] = (Int){2, 1, 4, 12, i % 2};
-    add_ints(&w->source, 8, from, NULL);
-    add_reals(&w->destination, 8, 0);
-}
-
-static void reals_to_ints(Workload *w) {
-    Int to[8];
-    for (int i = 0; i < 8; i++)
-        to[i] = (Int){2, 0, 0, 16, 1};
-    add_reals(&w->source, 8, 0);
-    add_ints(&w->destination, 8, to, NULL);
-}
-
-static void turned_reals(Workload *w) {
-    add_reals(&w->source, 8, 0);
-    add_reals(&w->destination, 8, 1);
-}
-
-static void array_of_512(Workload *w) {
-    add_array(&w->source, add_int(&w->source, (Int){2, 1, 4, 12, 1}), 512);
-    add_array(&w->destination, add_int(&w->destination, (Int){4, 0, 0, 32, 1}), 512);
-}
-
-static void four_enums(Side *s, Int base, int first, int step) {
-    int types[4], sizes[4];
-    hid_t h5[4];
-    for (int i = 0; i < 4; i++) {
-        types[i] = add_enum(s, base, first + i, step);
-        sizes[i] = s->size;
-        h5[i] = s->h5;
-    }
-    add_compound(s, 4, types, sizes, h5, NULL);
-}
-
-static void enums(Workload *w) {
-    four_enums(&w->source, (Int){1, 0, 0, 8, 0}, 0, 1);
-    four_enums(&w->destination, (Int){2, 1, 0, 16, 0}, 100, 3);
-}
-
-static void grown_byte(Workload *w) {
-    add_int(&w->source, (Int){1, 0, 0, 8, 1});
-    add_int(&w->destination, (Int){8, 0, 0, 64, 1});
-}
-
-static void four_of_64(Workload *w, const int *taken) {
-    Int four[4];
-    int types[64], sizes[64];
-    hid_t h5[64];
-    int type = add_int(&w->source, (Int){4, 0, 0, 32, 1});
-    for (int i = 0; i < 64; i++) {
-        types[i] = type;
-        sizes[i] = 4;
-        h5[i] = w->source.h5;
-    }
-    add_compound(&w->source, 64, types, sizes, h5, NULL);
-    for (int i = 0; i < 4; i++)
-        four[i] = (Int){4, 0, 0, 32, 1};
-    add_ints(&w->destination, 4, four, taken);
-}
-
-static void scattered(Workload *w) { four_of_64(w, (const int[4]){3, 17, 40, 62}); }
-static void first_four(Workload *w) { four_of_64(w, (const int[4]){0, 1, 2, 3}); }
-
-// ---- timing
+    const Workload *w;
+    Numpy numpy;
+    size_t records, calls, s, d, most;  // bytes of a record: of the source, of the destination, of the longer one
+    uint8_t *source, *background, *work, *h5_background;
+    uint8_t *expected;  // what the copying form left in the first round
+    size_t raised;      // how many leaves raised in it
+    int rounds_done;
+    uint32_t *table;
+} Run;
 
 static double now_ns(void) {
     struct timespec t;
-    clock_gettime(CLOCK_MONOTONIC, &t);
+    clock_gettime(CLOCK_THREAD_CPUTIME_ID, &t);
     return 1e9 * (double)t.tv_sec + (double)t.tv_nsec;
 }
 
@@ -280,273 +39,489 @@ static double median(double *times, int n) {
 }
 
 static void fail(const Workload *w, const char *what) {
+    fflush(stdout);
     fprintf(stderr, "%s: %s\n", w->name, what);
     exit(1);
 }
 
-static unsigned long long random_bits(void) {
-    static unsigned long long state = 88172645463325252ull;
-    state ^= state << 13;
-    state ^= state >> 7;
-    state ^= state << 17;
-    return state >> 24;
-}
-
-static unsigned char random_byte(int largest) { return (unsigned char)(random_bits() % (unsigned)(largest + 1)); }
-
-static void random_quarters(unsigned char *bytes, size_t len) {
-    for (size_t i = 0; i + 8 <= len; i += 8) {
-        double quarters = (double)(int)(random_bits() % (1 << 18)) / 4 - 32768;
-        memcpy(bytes + i, &quarters, 8);
+static uint8_t *room(size_t bytes) {
+    uint8_t *p = malloc(bytes ? bytes : 1);
+    if (!p) {
+        fprintf(stderr, "no memory\n");
+        exit(1);
     }
+    memset(p, 0, bytes);
+    return p;
 }
 
-// The report converts in h5, which HDF5 does not use then.
-typedef struct {
-    unsigned char *source, *background, *destination, *place, *h5, *h5_background;
-} Buffers;
-
-// Each gives the time of a record, with the source laid anew before each call: outside the time, but for the calls that are timed together.
-
-static double copying(const Workload *w, const Buffers *b, uint32_t *table) {
-    uint64_t answer[8];
-    const Side *s = &w->source, *d = &w->destination;
-    size_t from = strlen(s->sheet), to = strlen(d->sheet), n = w->records;
-    double t = now_ns();
-    for (int i = 0; i < w->calls; i++)
-        if (yirvagul_convert_copying_plain((const uint8_t *)s->sheet, from, (const uint8_t *)d->sheet, to, n, b->source, n * (size_t)s->size, b->destination, n * (size_t)d->size, table,
-                                           YIRVAGUL_TABLE_WORDS, answer))
-            fail(w, "the copying form refused");
-    return (now_ns() - t) / w->calls / (double)n;
+static Run make_run(const Workload *w, Numpy numpy, size_t records, size_t calls) {
+    size_t s = (size_t)w->source.size, d = (size_t)w->destination.size, most = s > d ? s : d, n = records * calls;
+    Run r = {w, numpy, records, calls, s, d, most, room(n * s), room(n * d), room(n * most), room(n * d), room(n * d), 0, 0, (uint32_t *)room(4 * YIRVAGUL_TABLE_WORDS)};
+    w->fill(w, r.source, n * s);
+    random_bytes(r.background, n * d);
+    return r;
 }
 
-static double in_place(const Workload *w, const Buffers *b, uint32_t *table) {
+static void free_run(Run *r) { free(r->source), free(r->background), free(r->work), free(r->h5_background), free(r->expected), free(r->table); }
+
+// Before each call, outside its time: what it converts where it lies, or what it writes over.
+
+static void lay_source(Run *r) {
+    for (size_t i = 0; i < r->calls; i++)
+        memcpy(r->work + i * r->records * r->most, r->source + i * r->records * r->s, r->records * r->s);
+}
+
+static void lay_background(Run *r) { memcpy(r->work, r->background, r->calls * r->records * r->d); }
+
+// After it: that the converted bytes, a call's at each `step` bytes, are those of the copying form.
+static void check(const Run *r, size_t step, const char *what) {
+    size_t len = r->records * r->d;
+    for (size_t i = 0; i < r->calls; i++)
+        if (memcmp(r->work + i * step, r->expected + i * len, len))
+            fail(r->w, what);
+}
+
+static void check_tail(const Run *r, const char *what) {
+    for (size_t i = 0; r->s > r->d && i < r->calls; i++)
+        for (size_t at = r->records * r->d; at < r->records * r->s; at++)
+            if (r->work[i * r->records * r->most + at])
+                fail(r->w, what);
+}
+
+static void check_raised(const Run *r, size_t raised, const char *what) {
+    if (raised != r->raised)
+        fail(r->w, what);
+}
+
+// ---- the peers: each gives the time of all calls in ns, 0 where it is not there
+
+static double copying(Run *r) {
     uint64_t answer[8];
-    const Side *s = &w->source, *d = &w->destination;
-    size_t from = strlen(s->sheet), to = strlen(d->sheet), n = w->records, most = n * (size_t)(s->size > d->size ? s->size : d->size);
-    memcpy(b->place, b->source, n * (size_t)s->size);
+    const Side *s = &r->w->source, *d = &r->w->destination;
+    size_t from = strlen(s->sheet), to = strlen(d->sheet), n = r->records, raised = 0;
+    lay_background(r);
     double t = now_ns();
-    for (int i = 0; i < w->calls; i++) {
-        if (i > 0)
-            memcpy(b->place, b->source, n * (size_t)s->size);
-        if (yirvagul_convert_in_place_plain((const uint8_t *)s->sheet, from, (const uint8_t *)d->sheet, to, n, b->place, most, b->background, n * (size_t)d->size, table, YIRVAGUL_TABLE_WORDS, answer))
-            fail(w, "the in-place form refused");
+    for (size_t i = 0; i < r->calls; i++) {
+        if (yirvagul_convert_copying((const uint8_t *)s->sheet, from, (const uint8_t *)d->sheet, to, n, (uint32_t)r->w->handling, r->source + i * n * r->s, n * r->s,
+                                     r->work + i * n * r->d, n * r->d, r->table, YIRVAGUL_TABLE_WORDS, answer))
+            fail(r->w, "the copying form refused");
+        raised += answer[YIRVAGUL_ANSWER_COUNT];
     }
-    return (now_ns() - t) / w->calls / (double)n;
+    t = now_ns() - t;
+    if (r->rounds_done++ == 0) {
+        memcpy(r->expected, r->work, r->calls * n * r->d);
+        r->raised = raised;
+    }
+    check(r, n * r->d, "the copying form's bytes differ");
+    check_raised(r, raised, "the copying form's count differs");
+    return t;
 }
 
-// Over a report of no records.
-static double report(const Workload *w, const Buffers *b, uint32_t *table) {
-    static int64_t memory[YIRVAGUL_REPORT_WORDS];
-    static uint8_t output[YIRVAGUL_REPORT_BYTES];
+static double in_place(Run *r) {
     uint64_t answer[8];
-    const Side *s = &w->source, *d = &w->destination;
-    size_t from = strlen(s->sheet), to = strlen(d->sheet), n = w->records, most = n * (size_t)(s->size > d->size ? s->size : d->size);
-    memset(memory, 0, sizeof memory);
-    memcpy(b->h5, b->source, n * (size_t)s->size);
+    const Side *s = &r->w->source, *d = &r->w->destination;
+    size_t from = strlen(s->sheet), to = strlen(d->sheet), n = r->records, raised = 0;
+    lay_source(r);
     double t = now_ns();
-    if (yirvagul_report((const uint8_t *)s->sheet, from, (const uint8_t *)d->sheet, to, n, b->h5, most, b->background, n * (size_t)d->size, memory, YIRVAGUL_REPORT_WORDS, output, sizeof output,
-                        table, YIRVAGUL_TABLE_WORDS, answer))
-        fail(w, "the report refused");
+    for (size_t i = 0; i < r->calls; i++) {
+        if (yirvagul_convert_in_place((const uint8_t *)s->sheet, from, (const uint8_t *)d->sheet, to, n, (uint32_t)r->w->handling, r->work + i * n * r->most, n * r->most,
+                                      r->background + i * n * r->d, n * r->d, r->table, YIRVAGUL_TABLE_WORDS, answer))
+            fail(r->w, "the in-place form refused");
+        raised += answer[YIRVAGUL_ANSWER_COUNT];
+    }
     t = now_ns() - t;
-    if (memory[YIRVAGUL_REPORT_WORDS - 1] || memory[YIRVAGUL_REPORT_LEAVES + YIRVAGUL_REPORT_LEAF_WORDS * w->leaves - 1] != (int64_t)n)
-        fail(w, "the report has other samples than records");
-    return t / (double)n;
-}
-
-// The source's records with those in place, which have so many differences.
-static double compare(const Workload *w, const Buffers *b, uint32_t *table, size_t differences) {
-    static uint8_t list[YIRVAGUL_COMPARE_HEADER_BYTES + RECORDS * YIRVAGUL_COMPARE_LINE_BYTES];
-    uint64_t answer[8];
-    const Side *s = &w->source, *d = &w->destination;
-    size_t from = strlen(s->sheet), to = strlen(d->sheet), n = w->records, lines = 0;
-    double t = now_ns();
-    if (yirvagul_compare((const uint8_t *)s->sheet, from, (const uint8_t *)d->sheet, to, n, b->source, n * (size_t)s->size, b->place, n * (size_t)d->size, list, sizeof list, table,
-                         YIRVAGUL_TABLE_WORDS, answer))
-        fail(w, "the comparison refused");
-    t = now_ns() - t;
-    for (size_t i = 0; i < answer[YIRVAGUL_ANSWER_COUNT]; i++)
-        lines += list[i] == '\n';
-    if (lines != 1 + differences)
-        fail(w, "the list has another number of differences");
-    return t / (double)n;
+    check(r, n * r->most, "the two forms differ");
+    check_tail(r, "the in-place form leaves bytes of the source");
+    check_raised(r, raised, "the two forms' counts differ");
+    return t;
 }
 
 // H5Tconvert works in place over a background. Its datatypes are ready.
-static double hdf5(const Workload *w, const Buffers *b) {
+static double hdf5(Run *r) {
+    double t = 0;
 #ifdef WITH_HDF5
-    size_t n = w->records;
-    memcpy(b->h5, b->source, n * (size_t)w->source.size);
-    memcpy(b->h5_background, b->background, n * (size_t)w->destination.size);
-    double t = now_ns();
-    for (int i = 0; i < w->calls; i++) {
-        if (i > 0)
-            memcpy(b->h5, b->source, n * (size_t)w->source.size);
-        if (H5Tconvert(w->source.h5, w->destination.h5, n, b->h5, b->h5_background, H5P_DEFAULT) < 0)
-            fail(w, "HDF5 refused");
-    }
-    return (now_ns() - t) / w->calls / (double)n;
+    size_t n = r->records;
+    lay_source(r);
+    memcpy(r->h5_background, r->background, r->calls * n * r->d);
+    t = now_ns();
+    for (size_t i = 0; i < r->calls; i++)
+        if (H5Tconvert(r->w->source.h5, r->w->destination.h5, n, r->work + i * n * r->most, r->h5_background + i * n * r->d, H5P_DEFAULT) < 0)
+            fail(r->w, "HDF5 refused");
+    t = now_ns() - t;
+    if (!r->w->other_bytes)
+        check(r, n * r->most, "HDF5's bytes differ");
 #else
-    (void)w;
-    (void)b;
-    return 0;
+    (void)r;
 #endif
+    return t;
 }
 
-static void print_row(const Workload *w, double c, double p, double h) {
-    double n = w->leaves;
-    printf("| %s | %.1f | %.2f | %.1f | %.2f |", w->name, c, c / n, p, p / n);
-    if (h > 0)
-        printf(" %.1f | %.2f | %.2f | %.2f | %s |\n", h, h / n, h / c, h / p, w->target);
+// Numpy has no call that stops before it writes.
+static double numpy(Run *r) {
+    if (!r->numpy || r->w->handling)
+        return 0;
+    double t = r->numpy(r->w->source.sheet, r->w->destination.sheet, r->records, r->calls, r->source, r->background, r->work);
+    if (t < 0)
+        fail(r->w, "numpy failed");
+    if (t > 0)
+        check(r, r->records * r->d, "numpy's bytes differ");
+    return t;
+}
+
+static double plain(Run *r) {
+    size_t raised = 0;
+    if (!r->w->plain)
+        return 0;
+    lay_background(r);
+    double t = now_ns();
+    for (size_t i = 0; i < r->calls; i++)
+        raised += r->w->plain(r->source + i * r->records * r->s, r->work + i * r->records * r->d, r->records);
+    t = now_ns() - t;
+    check(r, r->records * r->d, "the C loop's bytes differ");
+    check_raised(r, raised, "the C loop's count differs");
+    return t;
+}
+
+static double plain_in_place(Run *r) {
+    size_t raised = 0;
+    if (!r->w->plain_in_place)
+        return 0;
+    lay_source(r);
+    double t = now_ns();
+    for (size_t i = 0; i < r->calls; i++)
+        raised += r->w->plain_in_place(r->work + i * r->records * r->most, r->records);
+    t = now_ns() - t;
+    check(r, r->records * r->most, "the bytes of the C loop in place differ");
+    check_tail(r, "the C loop in place leaves bytes of the source");
+    check_raised(r, raised, "the count of the C loop in place differs");
+    return t;
+}
+
+enum { COPYING, IN_PLACE, HDF5, NUMPY, C, C_IN_PLACE, PEERS };
+static double (*const peers[PEERS])(Run *) = {copying, in_place, hdf5, numpy, plain, plain_in_place};
+
+// The medians of the rounds, for all calls.
+static void time_peers(Run *r, int rounds, double *medians) {
+    static double times[PEERS][ROUNDS_MOST];
+    for (int i = 0; i < rounds; i++)
+        for (int p = 0; p < PEERS; p++)
+            times[p][i] = peers[p](r);
+    for (int p = 0; p < PEERS; p++)
+        medians[p] = median(times[p], rounds);
+}
+
+// ---- tables
+
+static void print_cell(double x) {
+    if (x > 0)
+        printf(x < 9.995 ? " %.2f |" : x < 99.95 ? " %.1f |" : " %.0f |", x);
     else
-        printf(" | | | | %s |\n", w->target);
-    fflush(stdout);
+        printf(" |");
 }
 
-static Buffers make_buffers(const Workload *w) {
-    size_t s = w->records * (size_t)w->source.size, d = w->records * (size_t)w->destination.size, most = s > d ? s : d;
-    Buffers b = {malloc(s), calloc(d, 1), calloc(d, 1), malloc(most), malloc(most), malloc(d)};
-    if (w->largest == QUARTERS)
-        random_quarters(b.source, s);
+static double ratio(double a, double b) { return a > 0 && b > 0 ? a / b : 0; }
+
+// What a row is told of its targets.
+typedef struct {
+    char missed[128];
+    int targets, timed;
+} Verdict;
+
+static void judge(Verdict *v, const char *what, double target, double is, int met) {
+    if (target <= 0)
+        return;
+    v->targets++;
+    if (is <= 0)
+        return;
+    v->timed++;
+    if (!met)
+        strcat(strcat(v->missed, *v->missed ? ", " : " NOT MET: "), what);
+}
+
+static void print_verdict(const Verdict *v) {
+    if (*v->missed)
+        printf("%s |", v->missed);
+    else if (v->timed)
+        printf(v->timed < v->targets ? " met, as far as timed |" : " met |");
     else
-        for (size_t i = 0; i < s; i++)
-            b.source[i] = random_byte(w->largest);
-    return b;
+        printf(" |");
 }
 
-static void free_buffers(Buffers b) { free(b.source), free(b.background), free(b.destination), free(b.place), free(b.h5), free(b.h5_background); }
-
-static void run_report(const Workload *w, int rounds) {
-    static double p[ROUNDS_MOST], r[ROUNDS_MOST];
-    size_t d = w->records * (size_t)w->destination.size;
-    Buffers b = make_buffers(w);
-    uint32_t *table = calloc(YIRVAGUL_TABLE_WORDS, sizeof *table);
-    for (int i = 0; i < rounds; i++) {
-        p[i] = in_place(w, &b, table);
-        r[i] = report(w, &b, table);
+static void print_targets(const Targets *t) {
+    const char *comma = " ";
+    if (t->hdf5 > 0) {
+        printf(" HDF5 %.3g", t->hdf5);
+        if (t->hdf5_in_place != t->hdf5)
+            printf(" (in place %.3g)", t->hdf5_in_place);
+        comma = ", ";
     }
-    if (memcmp(b.h5, b.place, d))
-        fail(w, "the report's log differs");
-    double place = median(p, rounds), all = median(r, rounds), n = w->leaves;
-    printf("| %s | %.1f | %.2f | %.1f | %.2f | %.2f | %s |\n", w->name, place, place / n, all, all / n, all / place, w->target);
-    fflush(stdout);
-    free_buffers(b), free(table);
+    if (t->numpy > 0) {
+        printf("%snumpy %.3g", comma, t->numpy);
+        comma = ", ";
+    }
+    if (t->c > 0)
+        printf("%sC %.3g", comma, t->c);
+    printf(" |");
 }
+
+static void time_conversion(const Workload *w, Numpy lent, int rounds) {
+    double m[PEERS];
+    Run r = make_run(w, lent, RECORDS, 1);
+    time_peers(&r, rounds, m);
+    const Targets *t = &w->targets;
+    double hc = ratio(m[HDF5], m[COPYING]), hp = ratio(m[HDF5], m[IN_PLACE]), nc = ratio(m[NUMPY], m[COPYING]), np = ratio(m[NUMPY], m[IN_PLACE]);
+    double cc = ratio(m[COPYING], m[C]), cp = ratio(m[IN_PLACE], m[C_IN_PLACE]);
+    Verdict v = {"", 0, 0};
+    judge(&v, "HDF5 / copying", t->hdf5, hc, hc >= t->hdf5);
+    judge(&v, "HDF5 / in place", t->hdf5_in_place, hp, hp >= t->hdf5_in_place);
+    judge(&v, "numpy / copying", t->numpy, nc, nc >= t->numpy);
+    judge(&v, "numpy / in place", t->numpy, np, np >= t->numpy);
+    judge(&v, "copying / C", t->c, cc, cc <= t->c);
+    judge(&v, "in place / C", w->plain_in_place ? t->c : 0, cp, cp <= t->c);
+    printf("| %s | %d |", w->name, w->leaves);
+    for (int p = 0; p < PEERS; p++)
+        print_cell(m[p] / RECORDS);
+    print_cell(hc), print_cell(hp), print_cell(nc), print_cell(np), print_cell(cc), print_cell(cp);
+    print_targets(t);
+    print_verdict(&v);
+    printf(" %s |\n", w->other_bytes ? w->other_bytes : "");
+    fflush(stdout);
+    free_run(&r);
+}
+
+static void time_small_calls(const Workload *w, Numpy lent, int rounds) {
+    static const size_t sizes[][2] = {{1, 512}, {16, 128}, {256, 16}};
+    for (size_t i = 0; i < sizeof sizes / sizeof *sizes; i++) {
+        double m[PEERS];
+        Run r = make_run(w, lent, sizes[i][0], sizes[i][1]);
+        time_peers(&r, rounds, m);
+        printf("| %s | %zu |", w->name, r.records);
+        for (int p = 0; p <= NUMPY; p++)
+            print_cell(m[p] / 1000 / (double)r.calls);
+        print_cell(ratio(m[HDF5], m[COPYING])), print_cell(ratio(m[HDF5], m[IN_PLACE])), print_cell(ratio(m[NUMPY], m[COPYING]));
+        printf("\n");
+        fflush(stdout);
+        free_run(&r);
+    }
+}
+
+// ---- the slowest legal calls: in seconds, of one call each
+
+enum { SLOWEST_MOST = 3, SLOWEST_TRIED = 512, SLOWEST_PATIENCE = 30 };
+
+static double slowest_call(const Workload *w, size_t n, int place) {
+    uint64_t answer[8];
+    size_t len = n * SLOWEST_LEAVES * 2, from = strlen(w->source.sheet), to = strlen(w->destination.sheet);
+    uint8_t *source = room(len), *destination = room(len), *table = room(4 * YIRVAGUL_TABLE_WORDS);
+    uint16_t number = w->handling ? SLOWEST_LAST : SLOWEST_NONE;
+    for (size_t i = 0; i < len; i += 2)
+        source[i] = (uint8_t)number, source[i + 1] = (uint8_t)(number >> 8);
+    source[len - 2] = (uint8_t)SLOWEST_NONE, source[len - 1] = (uint8_t)(SLOWEST_NONE >> 8);
+    if (place)
+        memcpy(destination, source, len);
+    double t = now_ns();
+    uint32_t got = place ? yirvagul_convert_in_place((const uint8_t *)w->source.sheet, from, (const uint8_t *)w->destination.sheet, to, n, (uint32_t)w->handling, destination, len, source, len,
+                                                     (uint32_t *)table, YIRVAGUL_TABLE_WORDS, answer)
+                         : yirvagul_convert_copying((const uint8_t *)w->source.sheet, from, (const uint8_t *)w->destination.sheet, to, n, (uint32_t)w->handling, source, len, destination, len,
+                                                    (uint32_t *)table, YIRVAGUL_TABLE_WORDS, answer);
+    t = now_ns() - t;
+    if (w->handling) {
+        if (got != YIRVAGUL_STOP || answer[YIRVAGUL_ANSWER_RECORD] != n - 1 || answer[YIRVAGUL_ANSWER_AT] != 2 * SLOWEST_LEAVES - 2 || answer[YIRVAGUL_ANSWER_MAGNITUDE] != SLOWEST_NONE)
+            fail(w, "stopped elsewhere, or not at all");
+        for (size_t i = 0; i < len; i++)
+            if (destination[i] != (place ? source[i] : 0))
+                fail(w, "stopped and wrote");
+    } else {
+        if (got != YIRVAGUL_DONE || answer[YIRVAGUL_ANSWER_COUNT] != n * SLOWEST_LEAVES)
+            fail(w, "has another count");
+        for (size_t i = 0; i < len; i++)
+            if (destination[i] != 255)
+                fail(w, "has other bytes");
+    }
+    free(source), free(destination), free(table);
+    return t / 1e9;
+}
+
+// Where a few records show that it would take far too long, its time is worked out from theirs.
+static void time_slowest(const Workload *w) {
+    int met = 1;
+    printf("| %s |", w->name);
+    for (int place = 0; place < 2; place++) {
+        double about = slowest_call(w, SLOWEST_TRIED, place) * RECORDS / SLOWEST_TRIED, t = about;
+        if (about > SLOWEST_PATIENCE)
+            printf(" about %.0f, from %d records |", about, SLOWEST_TRIED);
+        else
+            printf(" %.2f |", t = slowest_call(w, RECORDS, place));
+        met = met && t < SLOWEST_MOST;
+    }
+    printf(" %d |%s |\n", SLOWEST_MOST, met ? " met" : " NOT MET");
+    fflush(stdout);
+}
+
+// ---- the report
+
+// Over a report of no records, in ns.
+static double report(Run *r) {
+    static int64_t memory[YIRVAGUL_REPORT_WORDS];
+    static uint8_t output[YIRVAGUL_REPORT_BYTES];
+    uint64_t answer[8];
+    const Side *s = &r->w->source, *d = &r->w->destination;
+    size_t from = strlen(s->sheet), to = strlen(d->sheet), n = r->records;
+    memset(memory, 0, sizeof memory);
+    lay_source(r);
+    double t = now_ns();
+    if (yirvagul_report((const uint8_t *)s->sheet, from, (const uint8_t *)d->sheet, to, n, r->work, n * r->most, r->background, n * r->d, memory, YIRVAGUL_REPORT_WORDS, output, sizeof output,
+                        r->table, YIRVAGUL_TABLE_WORDS, answer))
+        fail(r->w, "the report refused");
+    t = now_ns() - t;
+    if (memory[YIRVAGUL_REPORT_WORDS - 1] || memory[YIRVAGUL_REPORT_LEAVES + YIRVAGUL_REPORT_LEAF_WORDS * r->w->leaves - 1] != (int64_t)n)
+        fail(r->w, "the report has other samples than records");
+    check(r, n * r->most, "the report's log differs");
+    return t;
+}
+
+static void print_pair(const Workload *w, double conversion, double all) {
+    double a = conversion / RECORDS, b = all / RECORDS, most = w->targets.c;
+    printf("| %s | %.1f | %.2f | %.1f | %.2f | %.2f |", w->name, a, a / w->leaves, b, b / w->leaves, b / a);
+    if (most > 0)
+        printf(" %.3g | %s |\n", most, b / a <= most ? "met" : "NOT MET");
+    else
+        printf(" | |\n");
+    fflush(stdout);
+}
+
+static void time_report(const Workload *w, int rounds) {
+    static double p[ROUNDS_MOST], all[ROUNDS_MOST];
+    Run r = make_run(w, NULL, RECORDS, 1);
+    copying(&r);
+    for (int i = 0; i < rounds; i++) {
+        p[i] = in_place(&r);
+        all[i] = report(&r);
+    }
+    print_pair(w, median(p, rounds), median(all, rounds));
+    free_run(&r);
+}
+
+// ---- the comparison
 
 // What becomes of a converted record before it is compared; each gives how many of its numbers are others then.
 
-static size_t nothing(size_t record, unsigned char *bytes) {
+static size_t nothing(size_t record, uint8_t *bytes) {
     (void)record;
     (void)bytes;
     return 0;
 }
 
-static size_t first_byte(size_t record, unsigned char *bytes) {
+static size_t first_byte(size_t record, uint8_t *bytes) {
     (void)record;
     bytes[0] ^= 1;
     return 1;
 }
 
-static size_t first_of_100(size_t record, unsigned char *bytes) { return record % 100 ? 0 : first_byte(record, bytes); }
+static size_t first_of_100(size_t record, uint8_t *bytes) { return record % 100 ? 0 : first_byte(record, bytes); }
 
 // Of 8 members of 12 bits above 4, in 2 bytes with the lowest first.
-static size_t pads(size_t record, unsigned char *bytes) {
+static size_t pads(size_t record, uint8_t *bytes) {
     (void)record;
     for (int i = 0; i < 8; i++)
-        bytes[2 * i] = (unsigned char)(bytes[2 * i] ^ (random_bits() & 15));
+        bytes[2 * i] = (uint8_t)(bytes[2 * i] ^ (random_bits() & 15));
     return 0;
 }
 
-static void run_compare(const Workload *w, int rounds, size_t (*change)(size_t, unsigned char *)) {
-    static double c[ROUNDS_MOST], k[ROUNDS_MOST];
-    size_t size = (size_t)w->destination.size, differences = 0;
-    Buffers b = make_buffers(w);
-    uint32_t *table = calloc(YIRVAGUL_TABLE_WORDS, sizeof *table);
-    copying(w, &b, table);
-    memcpy(b.place, b.destination, w->records * size);
-    for (size_t i = 0; i < w->records; i++)
-        differences += change(i, b.place + i * size);
-    for (int i = 0; i < rounds; i++) {
-        c[i] = copying(w, &b, table);
-        k[i] = compare(w, &b, table, differences);
-    }
-    double copied = median(c, rounds), compared = median(k, rounds), n = w->leaves;
-    printf("| %s | %.1f | %.2f | %.1f | %.2f | %.2f | %s |\n", w->name, copied, copied / n, compared, compared / n, compared / copied, w->target);
-    fflush(stdout);
-    free_buffers(b), free(table);
+// The source's records with those of `second`, which have so many differences.
+static double compare(const Run *r, const uint8_t *second, size_t differences) {
+    static uint8_t list[YIRVAGUL_COMPARE_HEADER_BYTES + RECORDS * YIRVAGUL_COMPARE_LINE_BYTES];
+    uint64_t answer[8];
+    const Side *s = &r->w->source, *d = &r->w->destination;
+    size_t from = strlen(s->sheet), to = strlen(d->sheet), n = r->records, lines = 0;
+    double t = now_ns();
+    if (yirvagul_compare((const uint8_t *)s->sheet, from, (const uint8_t *)d->sheet, to, n, r->source, n * r->s, second, n * r->d, list, sizeof list, r->table, YIRVAGUL_TABLE_WORDS, answer))
+        fail(r->w, "the comparison refused");
+    t = now_ns() - t;
+    for (size_t i = 0; i < answer[YIRVAGUL_ANSWER_COUNT]; i++)
+        lines += list[i] == '\n';
+    if (lines != 1 + differences)
+        fail(r->w, "the list has another number of differences");
+    return t;
 }
 
-static void run(const Workload *w, int rounds) {
-    static double c[ROUNDS_MOST], p[ROUNDS_MOST], h[ROUNDS_MOST];
-    size_t d = w->records * (size_t)w->destination.size;
-    Buffers b = make_buffers(w);
-    uint32_t *table = calloc(YIRVAGUL_TABLE_WORDS, sizeof *table);
+static void time_compare(const Workload *w, int rounds, size_t (*change)(size_t, uint8_t *)) {
+    static double c[ROUNDS_MOST], all[ROUNDS_MOST];
+    size_t differences = 0;
+    Run r = make_run(w, NULL, RECORDS, 1);
+    copying(&r);
+    uint8_t *second = room(RECORDS * r.d);
+    memcpy(second, r.expected, RECORDS * r.d);
+    for (size_t i = 0; i < RECORDS; i++)
+        differences += change(i, second + i * r.d);
     for (int i = 0; i < rounds; i++) {
-        c[i] = copying(w, &b, table);
-        p[i] = in_place(w, &b, table);
-        h[i] = hdf5(w, &b);
+        c[i] = copying(&r);
+        all[i] = compare(&r, second, differences);
     }
-    if (memcmp(b.destination, b.place, d))
-        fail(w, "the two forms differ");
-#ifdef WITH_HDF5
-    if (memcmp(b.destination, b.h5, d))
-        fail(w, "HDF5's bytes differ");
-#endif
-    print_row(w, median(c, rounds), median(p, rounds), median(h, rounds));
-    free_buffers(b), free(table);
+    print_pair(w, median(c, rounds), median(all, rounds));
+    free(second);
+    free_run(&r);
 }
 
-int main(int argc, char **argv) {
-    static Workload w[] = {{"8 whole-byte members", RECORDS, 1, 8, "4", 255, {.sheet = ""}, {.sheet = ""}},
-                           {"8 members of 12 bits", RECORDS, 1, 8, "15", 255, {.sheet = ""}, {.sheet = ""}},
-                           {"array of 512 of 12 bits", RECORDS, 1, 512, "6", 255, {.sheet = ""}, {.sheet = ""}},
-                           {"4 enums of 16 symbols", RECORDS, 1, 4, "3", 15, {.sheet = ""}, {.sheet = ""}},
-                           {"1 byte grown to 8", RECORDS, 1, 1, "", 255, {.sheet = ""}, {.sheet = ""}},
-                           {"4 members out of 64", RECORDS, 1, 4, "1.2", 255, {.sheet = ""}, {.sheet = ""}},
-                           {"the first 4 of 64", RECORDS, 1, 4, "", 255, {.sheet = ""}, {.sheet = ""}},
-                           {"8 members of 12 bits to doubles", RECORDS, 1, 8, "3", 255, {.sheet = ""}, {.sheet = ""}},
-                           {"8 doubles to 16-bit ints", RECORDS, 1, 8, "", QUARTERS, {.sheet = ""}, {.sheet = ""}},
-                           {"8 doubles of the other order", RECORDS, 1, 8, "", 255, {.sheet = ""}, {.sheet = ""}},
-                           {"8 whole-byte members, one record a call", 1, CALLS, 8, "", 255, {.sheet = ""}, {.sheet = ""}}};
-    static Workload reports[] = {{"report of 8 whole-byte members of at most 32 bits", RECORDS, 1, 8, "2.5", 255, {.sheet = ""}, {.sheet = ""}},
-                                 {"report of 8 members that may clamp", RECORDS, 1, 8, "", 255, {.sheet = ""}, {.sheet = ""}}};
-    static Workload compares[] = {{"compare 8 whole-byte members", RECORDS, 1, 8, "1.5", 255, {.sheet = ""}, {.sheet = ""}},
-                                  {"compare 8 members of 12 bits", RECORDS, 1, 8, "", 255, {.sheet = ""}, {.sheet = ""}},
-                                  {"compare 8 members of 12 bits with doubles", RECORDS, 1, 8, "", 255, {.sheet = ""}, {.sheet = ""}},
-                                  {"compare 8 doubles of the other order", RECORDS, 1, 8, "", 255, {.sheet = ""}, {.sheet = ""}},
-                                  {"compare 8 whole-byte members, one record of 100 differs", RECORDS, 1, 8, "", 255, {.sheet = ""}, {.sheet = ""}},
-                                  {"compare 8 whole-byte members, each record differs", RECORDS, 1, 8, "", 255, {.sheet = ""}, {.sheet = ""}},
-                                  {"compare 8 members of 12 bits, other pads", RECORDS, 1, 8, "", 255, {.sheet = ""}, {.sheet = ""}}};
-    static void (*const make_compare[])(Workload *) = {whole_bytes, twelve_bits, twelve_bits_to_reals, turned_reals, whole_bytes, whole_bytes, turned_twelve_bits};
-    static size_t (*const change[])(size_t, unsigned char *) = {nothing, nothing, nothing, nothing, first_of_100, first_byte, pads};
-    static void (*const make_report[])(Workload *) = {whole_bytes_of_32, clamped};
-    static void (*const make[])(Workload *) = {whole_bytes, twelve_bits, array_of_512, enums, grown_byte, scattered, first_four, twelve_bits_to_reals, reals_to_ints, turned_reals, whole_bytes};
-    int rounds = argc > 1 ? atoi(argv[1]) : 15;
+// ---- all of it
+
+static void print_head(const char *const *columns) {
+    int n = 0;
+    for (; columns[n]; n++)
+        printf("| %s ", columns[n]);
+    printf("|\n");
+    for (int i = 0; i < n; i++)
+        printf("|---");
+    printf("|\n");
+}
+
+int bench(int rounds, const char *part, Numpy lent) {
+    static const char *const columns[] = {"workload, ns a record", "leaves", "copying", "in place", "HDF5", "numpy", "C copying", "C in place", "HDF5 / copying", "HDF5 / in place",
+                                          "numpy / copying", "numpy / in place", "copying / C", "in place / C", "targets", "met", "not compared", NULL};
+    static const char *const small_columns[] = {"workload, µs a call", "records", "copying", "in place", "HDF5, datatypes ready", "numpy", "HDF5 / copying", "HDF5 / in place", "numpy / copying", NULL};
+    static const char *const slow_columns[] = {"workload, seconds", "copying", "in place", "at most", "met", NULL};
+    static const char *const report_columns[] = {"workload", "in place ns/record", "ns/leaf", "report ns/record", "ns/leaf", "report / in place", "at most", "met", NULL};
+    static const char *const compare_columns[] = {"workload", "copying ns/record", "ns/leaf", "compare ns/record", "ns/leaf", "compare / copying", "at most", "met", NULL};
+    static size_t (*const change[])(size_t, uint8_t *) = {nothing, nothing, nothing, nothing, first_of_100, first_byte, pads};
+    static Workload slowest[] = {{"slowest legal call, handling 0", SLOWEST_LEAVES, make_slowest, .handling = 0}, {"slowest legal call, handling 1", SLOWEST_LEAVES, make_slowest, .handling = 1}};
     if (rounds < 1 || rounds > ROUNDS_MOST)
-        rounds = 15;
-    printf("| workload | copying ns/record | ns/leaf | in place ns/record | ns/leaf | HDF5 ns/record | ns/leaf | HDF5 / copying | HDF5 / in place | target |\n");
-    printf("|---|---|---|---|---|---|---|---|---|---|\n");
-    for (size_t i = 0; i < sizeof w / sizeof *w; i++) {
-        if (argc > 2 && !strstr(w[i].name, argv[2]))
-            continue;
-        make[i](&w[i]);
-        run(&w[i], w[i].leaves > 100 ? (rounds + 2) / 3 : rounds);
-    }
-    printf("\n| workload | in place ns/record | ns/leaf | report ns/record | ns/leaf | report / in place | at most |\n");
-    printf("|---|---|---|---|---|---|---|\n");
-    for (size_t i = 0; i < sizeof reports / sizeof *reports; i++) {
-        if (argc > 2 && !strstr(reports[i].name, argv[2]))
-            continue;
-        make_report[i](&reports[i]);
-        run_report(&reports[i], rounds);
-    }
-    printf("\n| workload | copying ns/record | ns/leaf | compare ns/record | ns/leaf | compare / copying | at most |\n");
-    printf("|---|---|---|---|---|---|---|\n");
-    for (size_t i = 0; i < sizeof compares / sizeof *compares; i++) {
-        if (argc > 2 && !strstr(compares[i].name, argv[2]))
-            continue;
-        make_compare[i](&compares[i]);
-        run_compare(&compares[i], rounds, change[i]);
-    }
+        rounds = ROUNDS;
+    int fewer = (rounds + 2) / 3;
+    make_plain_tables();
+    for (size_t i = 0; i < conversions_count; i++)
+        conversions[i].make(&conversions[i]);
+    print_head(columns);
+    for (size_t i = 0; i < conversions_count; i++)
+        if (strstr(conversions[i].name, part))
+            time_conversion(&conversions[i], lent, conversions[i].leaves > WIDE ? fewer : rounds);
+    printf("\n");
+    print_head(small_columns);
+    for (size_t i = 0; i < small_calls_count; i++)
+        for (size_t j = 0; j < conversions_count; j++)
+            if (!strcmp(conversions[j].name, small_calls[i]) && strstr(conversions[j].name, part))
+                time_small_calls(&conversions[j], lent, conversions[j].leaves > WIDE ? fewer : rounds);
+    printf("\n");
+    print_head(slow_columns);
+    for (size_t i = 0; i < sizeof slowest / sizeof *slowest; i++)
+        if (strstr(slowest[i].name, part)) {
+            slowest[i].make(&slowest[i]);
+            time_slowest(&slowest[i]);
+        }
+    printf("\n");
+    print_head(report_columns);
+    for (size_t i = 0; i < reports_count; i++)
+        if (strstr(reports[i].name, part)) {
+            reports[i].make(&reports[i]);
+            time_report(&reports[i], rounds);
+        }
+    printf("\n");
+    print_head(compare_columns);
+    for (size_t i = 0; i < compares_count; i++)
+        if (strstr(compares[i].name, part)) {
+            compares[i].make(&compares[i]);
+            time_compare(&compares[i], rounds, change[i]);
+        }
     return 0;
 }
+
+int main(int argc, char **argv) { return bench(argc > 1 ? atoi(argv[1]) : ROUNDS, argc > 2 ? argv[2] : "", NULL); }
