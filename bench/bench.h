@@ -82,9 +82,9 @@ static const Numbering of_16 = {16, 0, 1, 100, 3}, of_3 = {3, 0, 1, 100, 3}, of_
 
 uint64_t random_bits(void);
 void random_bytes(uint8_t *bytes, size_t len);
-// An array of 2,048 enums of 16 bits with 256 symbols, to another such; the number of the symbol that stands last, and one that has none.
+// An array of 2,048 enums of 16 bits with 256 symbols, whose numbers are far apart, to another such; and a number that has no symbol.
 void make_slowest(Workload *w);
-enum { SLOWEST_LEAVES = 2048, SLOWEST_LAST = 65535, SLOWEST_NONE = 65534 };
+enum { SLOWEST_LEAVES = 2048, SLOWEST_SYMBOLS = 256, SLOWEST_STEP = 257, SLOWEST_NONE = 65534 };
 
 // ---- plain C loops (plain.c), by the workload's name
 

@@ -155,9 +155,15 @@ LOOPS(twelve_to_8, twelve_to_8, 16, 8, 1)
 STOP_LOOPS(stop_twelve_to_8, not_8, twelve_to_8, 16)
 
 INLINE size_t i32_to_i16(const uint8_t *s, uint8_t *d) {
-    int32_t x = (int32_t)le4(s), y = limited(x, -32768, 32767);
-    put2(d, (uint16_t)y);
-    return x != y;
+    unsigned raised = 0;
+    int16_t y[INTS];
+    for (int i = 0; i < INTS; i++) {
+        int x = (int32_t)le4(s + 4 * i);
+        y[i] = (int16_t)limited(x, -32768, 32767);
+        raised += x != y[i];
+    }
+    memcpy(d, y, sizeof y);
+    return raised;
 }
 INLINE size_t i32_not_i16(const uint8_t *s) {
     unsigned raised = 0;
@@ -165,13 +171,19 @@ INLINE size_t i32_not_i16(const uint8_t *s) {
         raised += (int32_t)le4(s + 4 * i) != (int16_t)le4(s + 4 * i);
     return raised;
 }
-LOOPS(i32_to_i16, i32_to_i16, 4, 2, INTS)
+LOOPS(i32_to_i16, i32_to_i16, 32, 16, 1)
 STOP_LOOPS(stop_i32_to_i16, i32_not_i16, i32_to_i16, 32)
 
 INLINE size_t u16_to_i16(const uint8_t *s, uint8_t *d) {
-    uint16_t x = le2(s), y = x > 32767 ? 32767 : x;
-    put2(d, y);
-    return x != y;
+    unsigned raised = 0;
+    uint16_t y[INTS];
+    for (int i = 0; i < INTS; i++) {
+        uint16_t x = le2(s + 2 * i);
+        y[i] = x > 32767 ? 32767 : x;
+        raised += x != y[i];
+    }
+    memcpy(d, y, sizeof y);
+    return raised;
 }
 INLINE size_t u16_not_i16(const uint8_t *s) {
     unsigned raised = 0;
@@ -179,27 +191,34 @@ INLINE size_t u16_not_i16(const uint8_t *s) {
         raised += le2(s + 2 * i) > 32767;
     return raised;
 }
-LOOPS(u16_to_i16, u16_to_i16, 2, 2, INTS)
+LOOPS(u16_to_i16, u16_to_i16, 16, 16, 1)
 STOP_LOOPS(stop_u16_to_i16, u16_not_i16, u16_to_i16, 16)
 
 // 12 bits above 4, the highest byte first, to 12 above 2 with 2 above them, the lowest byte first.
 INLINE uint16_t moved_12(const uint8_t *s) { return (uint16_t)(be2(s) >> 4 << 2); }
 INLINE size_t zero_pads(const uint8_t *s, uint8_t *d) {
-    put2(d, moved_12(s));
+    uint16_t x[INTS];
+    for (int i = 0; i < INTS; i++)
+        x[i] = moved_12(s + 2 * i);
+    memcpy(d, x, sizeof x);
     return 0;
 }
 INLINE size_t keep_pads(const uint8_t *s, uint8_t *d) {
-    put2(d, (uint16_t)(moved_12(s) | (le2(d) & 0xc003)));
+    uint16_t x[INTS];
+    for (int i = 0; i < INTS; i++)
+        x[i] = (uint16_t)(moved_12(s + 2 * i) | (le2(d + 2 * i) & 0xc003));
+    memcpy(d, x, sizeof x);
     return 0;
 }
-LOOPS(zero_pads, zero_pads, 2, 2, INTS)
-COPYING(keep_pads, keep_pads, 2, 2, INTS)
+LOOPS(zero_pads, zero_pads, 16, 16, 1)
+COPYING(keep_pads, keep_pads, 16, 16, 1)
 
 INLINE size_t same_12_bits(const uint8_t *s, uint8_t *d) {
-    put2(d, le2(s) & 0xf0ff);
+    for (int i = 0; i < INTS; i++)
+        put2(d + 2 * i, le2(s + 2 * i) & 0xf0ff);
     return 0;
 }
-COPYING(same_12_bits, same_12_bits, 2, 2, INTS)
+COPYING(same_12_bits, same_12_bits, 16, 16, 1)
 
 size_t plain_same_64(const uint8_t *source, uint8_t *destination, size_t n) { return memcpy(destination, source, n * 256), 0; }
 size_t plain_same_8(const uint8_t *source, uint8_t *destination, size_t n) { return memcpy(destination, source, n * 20), 0; }
@@ -227,21 +246,27 @@ LOOPS(to_reals, to_reals, 16, 64, 1)
 
 // The double of what is written has the bits of what was read, or the number did not fit: a fraction, a negative zero and a not-a-number too.
 INLINE size_t reals_to_ints(const uint8_t *s, uint8_t *d) {
-    double x = real(s), back;
-    int16_t y = x >= 32768 ? 32767 : x <= -32769 ? -32768 : x == x ? (int16_t)x : 0;
-    uint64_t bits = le8(s), bits_back;
-    back = y;
-    memcpy(&bits_back, &back, 8);
-    put2(d, (uint16_t)y);
-    return bits != bits_back;
+    unsigned raised = 0;
+    int16_t y[INTS];
+    for (int i = 0; i < INTS; i++) {
+        double x = real(s + 8 * i), back;
+        uint64_t bits_back;
+        y[i] = x >= 32768 ? 32767 : x <= -32769 ? -32768 : x == x ? (int16_t)x : 0;
+        back = y[i];
+        memcpy(&bits_back, &back, 8);
+        raised += le8(s + 8 * i) != bits_back;
+    }
+    memcpy(d, y, sizeof y);
+    return raised;
 }
-LOOPS(reals_to_ints, reals_to_ints, 8, 2, INTS)
+LOOPS(reals_to_ints, reals_to_ints, 64, 16, 1)
 
 INLINE size_t turned_reals(const uint8_t *s, uint8_t *d) {
-    put8(d, __builtin_bswap64(le8(s)));
+    for (int i = 0; i < INTS; i++)
+        put8(d + 8 * i, __builtin_bswap64(le8(s + 8 * i)));
     return 0;
 }
-LOOPS(turned_reals, turned_reals, 8, 8, INTS)
+LOOPS(turned_reals, turned_reals, 64, 64, 1)
 
 // ---- enums, by tables: what is to be written for a number, as its bytes lie, and whether it has no symbol
 

@@ -259,19 +259,20 @@ static void way_back(Workload *w) {
     is_example(d, "examples/rig.sheet");
 }
 
-static void slowest_side(Side *s) {
+// Line j of an enum has number 257 * j. The destination's lines name the source's symbols from the last to the first.
+static void slowest_side(Side *s, int turned) {
     Type e = add_enum(s, add_int(s, (Int){2, 0, 0, 16, 0, 0}));
-    for (int k = 0; k < 256; k++) {
+    for (int j = 0; j < SLOWEST_SYMBOLS; j++) {
         char name[32];
-        snprintf(name, sizeof name, "symbol.......%03d...............", k);
-        add_value(s, e, name, SLOWEST_LAST / 255 * k);
+        snprintf(name, sizeof name, "symbol.......%03d...............", turned ? SLOWEST_SYMBOLS - 1 - j : j);
+        add_value(s, e, name, SLOWEST_STEP * j);
     }
     add_array(s, e, SLOWEST_LEAVES);
 }
 
 void make_slowest(Workload *w) {
-    slowest_side(&w->source);
-    slowest_side(&w->destination);
+    slowest_side(&w->source, 0);
+    slowest_side(&w->destination, 1);
 }
 
 // ---- the sources
