@@ -491,61 +491,86 @@ static void time_compare(const Workload *w, int rounds, size_t (*change)(size_t,
 // ---- all of it
 
 static void print_head(const char *const *columns) {
+    static int tables;
     int n = 0;
+    if (tables++)
+        printf("\n");
     for (; columns[n]; n++)
         printf("| %s ", columns[n]);
     printf("|\n");
     for (int i = 0; i < n; i++)
         printf("|---");
     printf("|\n");
+    fflush(stdout);
 }
 
-int bench(int rounds, const char *part, Numpy lent) {
-    static const char *const columns[] = {"workload, ns a record", "leaves", "copying", "in place", "HDF5", "numpy", "C copying", "C in place", "HDF5 / copying", "HDF5 / in place",
-                                          "numpy / copying", "numpy / in place", "copying / C", "in place / C", "targets", "met", "not compared", NULL};
-    static const char *const small_columns[] = {"workload, µs a call", "records", "copying", "in place", "HDF5, datatypes ready", "numpy", "HDF5 / copying", "HDF5 / in place", "numpy / copying", NULL};
-    static const char *const slow_columns[] = {"workload, seconds", "number", "copying", "in place", "at most", "met", NULL};
-    static const char *const report_columns[] = {"workload", "in place ns/record", "ns/leaf", "report ns/record", "ns/leaf", "report / in place", "at most", "met", NULL};
-    static const char *const compare_columns[] = {"workload", "copying ns/record", "ns/leaf", "compare ns/record", "ns/leaf", "compare / copying", "at most", "met", NULL};
-    static size_t (*const change[])(size_t, uint8_t *) = {nothing, nothing, nothing, nothing, first_of_100, first_byte, pads};
-    static Workload slowest[] = {{"slowest legal call, handling 0", SLOWEST_LEAVES, make_slowest, .handling = 0}, {"slowest legal call, handling 1", SLOWEST_LEAVES, make_slowest, .handling = 1}};
-    if (rounds < 1 || rounds > ROUNDS_MOST)
-        rounds = ROUNDS;
-    int fewer = (rounds + 2) / 3;
-    make_plain_tables();
-    for (size_t i = 0; i < conversions_count; i++)
-        conversions[i].make(&conversions[i]);
+// Fewer rounds where a record has many leaves.
+static int rounds_of(const Workload *w, int rounds) { return w->leaves > WIDE ? (rounds + 2) / 3 : rounds; }
+
+static void conversion_table(int rounds, const char *part, Numpy lent) {
+    static const char *const columns[] = {"workload, ns a record", "leaves", "copying", "in place", "HDF5", "numpy", "C copying", "C in place",
+                                          "HDF5 / copying", "HDF5 / in place", "numpy / copying", "numpy / in place", "copying / C", "in place / C",
+                                          "targets", "met", "not compared", NULL};
     print_head(columns);
     for (size_t i = 0; i < conversions_count; i++)
         if (strstr(conversions[i].name, part))
-            time_conversion(&conversions[i], lent, conversions[i].leaves > WIDE ? fewer : rounds);
-    printf("\n");
-    print_head(small_columns);
+            time_conversion(&conversions[i], lent, rounds_of(&conversions[i], rounds));
+}
+
+static void small_table(int rounds, const char *part, Numpy lent) {
+    static const char *const columns[] = {"workload, µs a call", "records", "copying", "in place", "HDF5, datatypes ready", "numpy",
+                                          "HDF5 / copying", "HDF5 / in place", "numpy / copying", NULL};
+    print_head(columns);
     for (size_t i = 0; i < small_calls_count; i++)
         for (size_t j = 0; j < conversions_count; j++)
             if (!strcmp(conversions[j].name, small_calls[i]) && strstr(conversions[j].name, part))
-                time_small_calls(&conversions[j], lent, conversions[j].leaves > WIDE ? fewer : rounds);
-    printf("\n");
-    print_head(slow_columns);
+                time_small_calls(&conversions[j], lent, rounds_of(&conversions[j], rounds));
+}
+
+static void slowest_table(const char *part) {
+    static const char *const columns[] = {"workload, seconds", "number", "copying", "in place", "at most", "met", NULL};
+    static Workload slowest[] = {{"slowest legal call, handling 0", SLOWEST_LEAVES, make_slowest, .handling = 0},
+                                 {"slowest legal call, handling 1", SLOWEST_LEAVES, make_slowest, .handling = 1}};
+    print_head(columns);
     for (size_t i = 0; i < sizeof slowest / sizeof *slowest; i++)
         if (strstr(slowest[i].name, part)) {
             slowest[i].make(&slowest[i]);
             time_slowest(&slowest[i]);
         }
-    printf("\n");
-    print_head(report_columns);
+}
+
+static void report_table(int rounds, const char *part) {
+    static const char *const columns[] = {"workload", "in place ns/record", "ns/leaf", "report ns/record", "ns/leaf", "report / in place", "at most", "met", NULL};
+    print_head(columns);
     for (size_t i = 0; i < reports_count; i++)
         if (strstr(reports[i].name, part)) {
             reports[i].make(&reports[i]);
             time_report(&reports[i], rounds);
         }
-    printf("\n");
-    print_head(compare_columns);
+}
+
+static void compare_table(int rounds, const char *part) {
+    static const char *const columns[] = {"workload", "copying ns/record", "ns/leaf", "compare ns/record", "ns/leaf", "compare / copying", "at most", "met", NULL};
+    static size_t (*const change[])(size_t, uint8_t *) = {nothing, nothing, nothing, nothing, first_of_100, first_byte, pads};
+    print_head(columns);
     for (size_t i = 0; i < compares_count; i++)
         if (strstr(compares[i].name, part)) {
             compares[i].make(&compares[i]);
             time_compare(&compares[i], rounds, change[i]);
         }
+}
+
+int bench(int rounds, const char *part, Numpy lent) {
+    if (rounds < 1 || rounds > ROUNDS_MOST)
+        rounds = ROUNDS;
+    make_plain_tables();
+    for (size_t i = 0; i < conversions_count; i++)
+        conversions[i].make(&conversions[i]);
+    conversion_table(rounds, part, lent);
+    small_table(rounds, part, lent);
+    slowest_table(part);
+    report_table(rounds, part);
+    compare_table(rounds, part);
     return 0;
 }
 

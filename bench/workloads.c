@@ -40,8 +40,14 @@ static void ints(Workload *w) {
     ints_side(&w->destination, w->to);
 }
 
-static const Int whole[INTS] = {{1, 0, 0, 8, 0, 0}, {2, 0, 0, 16, 1, 0}, {4, 1, 0, 32, 0, 0}, {2, 1, 0, 16, 1, 0}, {4, 0, 0, 32, 1, 0}, {1, 0, 0, 8, 1, 0}, {2, 0, 0, 16, 0, 0}, {4, 0, 0, 32, 0, 0}};
-static const Int whole_to[INTS] = {{4, 0, 0, 32, 0, 0}, {4, 0, 0, 32, 1, 0}, {8, 0, 0, 64, 0, 0}, {8, 1, 0, 64, 1, 0}, {8, 0, 0, 64, 1, 0}, {2, 0, 0, 16, 1, 0}, {4, 1, 0, 32, 0, 0}, {8, 0, 0, 64, 0, 0}};
+static const Int whole[INTS] = {
+    {1, 0, 0, 8, 0, 0}, {2, 0, 0, 16, 1, 0}, {4, 1, 0, 32, 0, 0}, {2, 1, 0, 16, 1, 0},
+    {4, 0, 0, 32, 1, 0}, {1, 0, 0, 8, 1, 0}, {2, 0, 0, 16, 0, 0}, {4, 0, 0, 32, 0, 0},
+};
+static const Int whole_to[INTS] = {
+    {4, 0, 0, 32, 0, 0}, {4, 0, 0, 32, 1, 0}, {8, 0, 0, 64, 0, 0}, {8, 1, 0, 64, 1, 0},
+    {8, 0, 0, 64, 1, 0}, {2, 0, 0, 16, 1, 0}, {4, 1, 0, 32, 0, 0}, {8, 0, 0, 64, 0, 0},
+};
 
 static void whole_bytes(Workload *w) {
     memcpy(w->from, whole, sizeof whole);
@@ -51,7 +57,10 @@ static void whole_bytes(Workload *w) {
 
 // The ints that a report takes have at most 32 bits.
 static void whole_bytes_of_32(Workload *w) {
-    static const Int to[INTS] = {{4, 0, 0, 32, 0, 0}, {4, 0, 0, 32, 1, 0}, {4, 0, 0, 32, 0, 0}, {4, 1, 0, 32, 1, 0}, {4, 1, 0, 32, 1, 0}, {2, 0, 0, 16, 1, 0}, {4, 1, 0, 32, 0, 0}, {4, 1, 0, 32, 0, 0}};
+    static const Int to[INTS] = {
+        {4, 0, 0, 32, 0, 0}, {4, 0, 0, 32, 1, 0}, {4, 0, 0, 32, 0, 0}, {4, 1, 0, 32, 1, 0},
+        {4, 1, 0, 32, 1, 0}, {2, 0, 0, 16, 1, 0}, {4, 1, 0, 32, 0, 0}, {4, 1, 0, 32, 0, 0},
+    };
     memcpy(w->from, whole, sizeof whole);
     memcpy(w->to, to, sizeof to);
     ints(w);
