@@ -307,7 +307,7 @@ static void time_small_calls(const Workload *w, Numpy lent, int rounds) {
 
 // ---- the slowest legal calls: in seconds, of one call each
 
-enum { SLOWEST_MOST = 3, SLOWEST_TRIED = 512, SLOWEST_FEW = 8, SLOWEST_PATIENCE = 30 };
+enum { SLOWEST_MOST = 3, SLOWEST_TRIED = 512, SLOWEST_FEW = 8, SLOWEST_TRIES = 5, SLOWEST_PATIENCE = 30 };
 
 static void put_number(uint8_t *at, int number) {
     at[0] = (uint8_t)number;
@@ -353,18 +353,20 @@ static double slowest_call(const Workload *w, size_t n, int number, int place) {
     return t / 1e9;
 }
 
-// The number whose symbol is found last: which one that is is tried out.
+// The number whose symbol is found last. Which one that is, the least of some tries of each shows.
 static int found_last(const Workload *w) {
+    double least[SLOWEST_SYMBOLS];
     int last = 0;
-    double longest = 0;
-    for (int k = 0; k < SLOWEST_SYMBOLS; k++) {
-        double a = slowest_call(w, SLOWEST_FEW, SLOWEST_STEP * k, 0), b = slowest_call(w, SLOWEST_FEW, SLOWEST_STEP * k, 0), t = a < b ? a : b;
-        if (t > longest) {
-            longest = t;
-            last = SLOWEST_STEP * k;
+    for (int i = 0; i < SLOWEST_TRIES; i++)
+        for (int k = 0; k < SLOWEST_SYMBOLS; k++) {
+            double t = slowest_call(w, SLOWEST_FEW, SLOWEST_STEP * k, 0);
+            if (i == 0 || t < least[k])
+                least[k] = t;
         }
-    }
-    return last;
+    for (int k = 1; k < SLOWEST_SYMBOLS; k++)
+        if (least[k] > least[last])
+            last = k;
+    return SLOWEST_STEP * last;
 }
 
 // Where a few records show that it would take far too long, its time is worked out from theirs.
