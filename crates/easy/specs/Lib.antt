@@ -1,3 +1,2 @@
 pub mod Easy
 pub mod Words
-pub mod Each

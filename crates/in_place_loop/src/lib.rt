@@ -5,6 +5,8 @@ ghost use lib.ListN.{length, take, drop};
 ghost use Rattle.records.specs.Records.{readings, exceptions, inPlaceResult};
 ghost use Rattle.plans.specs.PlanWords.{Job};
 use loops::bytes::clear_bytes;
+use place_blocks::blocks_down;
+use place_blocks::blocks_up;
 use staged_record::replace_record;
 
 // From the first record up: no result record reaches a later source record where they do not grow.
@@ -24,8 +26,21 @@ fn replace_up(
     ensures { λ r. ⌜ ((j : Job «source_size» «destination_size» (now (plan .entry)) entries (now («source_half» .entry)) (now («destination_half» .entry)) (now (words .entry))) → (take (count * «destination_size») (now (buf .exit)) ≡ take (count * «destination_size») (inPlaceResult (j .source) (j .destination) count (now (buf .entry)) (now (background .entry)))) × (drop (count * «source_size») (now (buf .exit)) ≡ drop (count * «source_size») (now (buf .entry))) × (r ≡ exceptions (j .source) (j .destination) count (readings (j .source) (j .destination) (now (buf .entry))))) ⌝ }
 {
     let mut staging = [0u8; 4096];
-    let mut total: u64 = 0;
-    let mut i: usize = 0;
+    let done = blocks_up(
+        buf,
+        background,
+        &mut staging,
+        count,
+        source_size,
+        destination_size,
+        plan,
+        entries,
+        source_half,
+        destination_half,
+        words,
+    );
+    let mut total = done.raised;
+    let mut i = done.records;
     while i < count {
         total += replace_record(
             buf,
@@ -62,8 +77,21 @@ fn replace_down(
     ensures { λ r. ⌜ ((j : Job «source_size» «destination_size» (now (plan .entry)) entries (now («source_half» .entry)) (now («destination_half» .entry)) (now (words .entry))) → (now (buf .exit) ≡ inPlaceResult (j .source) (j .destination) count (now (buf .entry)) (now (background .entry))) × (r ≡ exceptions (j .source) (j .destination) count (readings (j .source) (j .destination) (now (buf .entry))))) ⌝ }
 {
     let mut staging = [0u8; 4096];
-    let mut total: u64 = 0;
-    let mut i = count;
+    let done = blocks_down(
+        buf,
+        background,
+        &mut staging,
+        count,
+        source_size,
+        destination_size,
+        plan,
+        entries,
+        source_half,
+        destination_half,
+        words,
+    );
+    let mut total = done.raised;
+    let mut i = count - done.records;
     while 0 < i {
         i -= 1;
         total += replace_record(

@@ -18,15 +18,15 @@ use Rattle.records.specs.Plan.{Entry, becomes, written, raisedBy, firstBy, AllS
 -- ---- one place
 
 module _ (l : Layout) (i : ℕ) (p q : List ℕ) (h : i + l .size .0 ≤ length p) where
-  place-front : place l i (p ++ q) ≡ place l i p
+  pub place-front : place l i (p ++ q) ≡ place l i p
   place-front = rw (drop-append-le i p q (omega arith), take-append-le (l .size .0) (drop i p) q (rw length-drop (omega arith)))
 
-  stored-front : (r : ℕ) → stored l i r (p ++ q) ≡ stored l i r p ++ q
+  pub stored-front : (r : ℕ) → stored l i r (p ++ q) ≡ stored l i r p ++ q
   stored-front r =
       rw (place-front, take-append-le i p q (omega arith), drop-append-le (i + l .size .0) p q h)
       (sym (append-assoc (take i p ++ take (l .size .0) (contained (l .order) (l .size .0) (filled l (container (l .order) (place l i p)) r))) (drop (i + l .size .0) p) q))
 
-becomes-front : (e : Entry) (p q : List ℕ) → e .from + leafSize (e .source) ≤ length p → becomes e (p ++ q) ≡ becomes e p
+pub becomes-front : (e : Entry) (p q : List ℕ) → e .from + leafSize (e .source) ≤ length p → becomes e (p ++ q) ≡ becomes e p
 becomes-front e p q h =
     let l : Layout = layoutOf (e .source) in
     ap (λ (b : List ℕ). converted (e .source) (e .destination) (valued (l .signed) (l .precision) (field (l .offset .0) (l .precision) (container (l .order) b))))

@@ -5,4 +5,3 @@ pub mod RecordAt
 pub mod CopyTurns
 pub mod PlaceTurns
 pub mod ScanTurns
-pub mod Singles

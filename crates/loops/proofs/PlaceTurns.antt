@@ -15,7 +15,7 @@ use Rattle.records.specs.Records.{readings, exceptions, inPlaceResult}
 use Rattle.records.specs.Plan.{written, raisedBy}
 use Rattle.plans.specs.PlanWords.{Ready, entriesOf, Job}
 use Rattle.easy.proofs.Lent.{tail-lent}
-use Rattle.loops.specs.Steps.{put, recordBy, raisedOf}
+use Rattle.loops.specs.Steps.{put, recordBy, raisedOf, Up, Down}
 use Rattle.loops.proofs.Lists.{row-within, row-next, lent-front, drop-agree, take-agree, part-agree, put-length, put-take, put-drop, put-here, put-put, put-up, put-down}
 use Rattle.loops.proofs.Jobs.{job-call}
 use Rattle.loops.proofs.RecordAt.{recordAt, same-reading, record-length, record-in, behind}
@@ -51,20 +51,9 @@ module _ {s d : ℕ} {plan : List ℕ} {n : ℕ} {ws wd words : List ℕ} (j : J
 
 -- ---- n records
 
--- up: to where record i goes the buffer is the result's, from source record i on as it was
-abbrev pub Up : Datatype → Datatype → ℕ → ℕ → ℕ → List ℕ → List ℕ → ℕ → List ℕ → ℕ → Type 0
-Up S D s d c buf₀ bg i buf total =
-    (take (i * d) buf ≡ take (i * d) (inPlaceResult S D c buf₀ bg)) × (drop (i * s) buf ≡ drop (i * s) buf₀) × (total ≡ exceptions S D i (readings S D buf₀))
-
 pub up-start : (S D : Datatype) (s d c : ℕ) (buf₀ bg : List ℕ) → Up S D s d c buf₀ bg 0 buf₀ 0
 unfolding exceptions
 up-start S D s d c buf₀ bg = simp zero-mul (refl, refl, refl)
-
--- down: from where record i goes the buffer is the result's, up to source record i as it was
-abbrev pub Down : Datatype → Datatype → ℕ → ℕ → ℕ → List ℕ → List ℕ → ℕ → List ℕ → ℕ → Type 0
-Down S D s d c buf₀ bg i buf total =
-    (take (i * s) buf ≡ take (i * s) buf₀) × (drop (i * d) buf ≡ drop (i * d) (inPlaceResult S D c buf₀ bg))
-    × (total + exceptions S D i (readings S D buf₀) ≡ exceptions S D c (readings S D buf₀))
 
 module _ (S D : Datatype) (f : WellFormed S) (g : WellFormed D) (s d : ℕ) (es : s ≡ size S) (ed : d ≡ size D) (c : ℕ) (buf₀ bg : List ℕ) (room : c * d ≤ length bg) where
   abbrev result : List ℕ

@@ -8,6 +8,7 @@ ghost use Rattle.loops.specs.Stops.{stopBy};
 use loops::Stop;
 use one_record::first_raising;
 use plans::Raising;
+use quiet_blocks::quiet_records;
 
 // The first of so many source records in src that raises an exception, and its first leaf that does.
 pub fn first_exception(
@@ -23,7 +24,16 @@ pub fn first_exception(
     requires { ⌜ ((d : ℕ) × Job «source_size» d (now plan) entries (now «source_half») (now «destination_half») (now words)) × (count ≤ 65536) × (count * «source_size» ≤ length (now src)) ⌝ }
     ensures { λ r. ⌜ ((d : ℕ) (j : Job «source_size» d (now (plan .entry)) entries (now («source_half» .entry)) (now («destination_half» .entry)) (now (words .entry))) → r ≡ stopBy (planOf (j .source) (j .destination)) «source_size» (now (src .entry)) 0 count) ⌝ }
 {
-    let mut i: usize = 0;
+    let mut i = quiet_records(
+        src,
+        count,
+        source_size,
+        plan,
+        entries,
+        source_half,
+        destination_half,
+        words,
+    );
     while i < count {
         if let Raising::At(b, kind, given) = first_raising(
             &src[i * source_size..],

@@ -11,13 +11,14 @@ use Rattle.loops.specs.Steps.{recordBy, raisedOf, Done}
 use Rattle.loops.proofs.Lists.{row-within}
 use Rattle.loops.proofs.Jobs.{ready, job-parts, raised-small}
 use Rattle.loops.proofs.CopyTurns.{turn, finish}
+use Rattle.blocks.proofs.Counted.{all-most}
 use Rattle.copy_loop.proofs.copy_records.Statement.{statement}
 use Rattle.copy_loop.proofs.copy_records.Tie as tie
 
 abbrev Inv-loop : tie.InvT-loop
 Inv-loop src dst₀ c s d plan n ws wd words total₀ i₀ dst total i =
     (i ≤ c) × (length dst ≡ length dst₀) × (total ≤ 4096 * i)
-    × ((j : Job s d plan n ws wd words) (was : List ℕ) → length dst₀ ≡ length was → c * d ≤ length was → Done (j .source) (j .destination) d c src was i₀ dst₀ 0 → Done (j .source) (j .destination) d c src was i dst total)
+    × ((j : Job s d plan n ws wd words) (was : List ℕ) → length dst₀ ≡ length was → c * d ≤ length was → Done (j .source) (j .destination) d c src was i₀ dst₀ total₀ → Done (j .source) (j .destination) d c src was i dst total)
 
 abbrev μ-loop : tie.MeasureT-loop
 μ-loop src dst₀ c s d plan n ws wd words total₀ i₀ dst total i = c - i
@@ -30,7 +31,11 @@ rows c =
     (row-within (a .source-size) (c .loop-test .taken), row-within (a .destination-size) (c .loop-test .taken))
 
 loop-holds : tie.Need-loop-holds Inv-loop μ-loop
-loop-holds c = (c .before .before .copy-single .ensures .0, refl, omega arith, λ j was same room done. done)
+loop-holds c =
+    let top = c .before .before .before .before .before .before .before .before .before .before in
+    let call = c .before .before .copy-blocks in
+    let j = top .pre .0 in
+    (call .ensures .0, refl, omega (arith, call .ensures .1 j .2, all-most j (top .args .src .now) (call .result .records)), λ j was same room done. done)
 
 -- what the call for record i leaves, and counts
 called : (c : tie.After-write-record Inv-loop μ-loop)
@@ -82,14 +87,14 @@ loop-again c =
     (omega arith, lent-length (l .loop .i * a .destination-size) (l .loop .dst) (c .before .before .write-record .last .1 .0) (omega (arith, rows (c .before .before .before .before .before))) (c .before .before .write-record .kept .1 .0) ∙ l .loop .inv .1, omega (arith, small (c .before .before)), λ j was same room done. turn (j .source) (j .destination) (j .sourceFormed) (j .destinationFormed) (a .source-size) (a .destination-size) (j .sourceSize) (j .destinationSize) (a .count) (a .src .now) was room (l .loop .i) (l .loop .total) _ (l .loop .dst) _ (omega arith) (l .loop .inv .1 ∙ same) (l .loop .inv .3 j was same room done) (called (c .before .before) j))
 
 same-length : tie.Need-same-length Inv-loop μ-loop
-same-length c = c .before .loop .inv .1 ∙ c .before .before .before .before .copy-single .kept .1 .0
+same-length c = c .before .loop .inv .1 ∙ c .before .before .before .before .copy-blocks .kept .1 .0
 
 returns : tie.Need-returns Inv-loop μ-loop
 returns c =
     let top = c .before .before .before .before .before .before .before .before .before .before .before .before in
     let a = top .args in
     let l = c .before in
-    let call = l .before .before .before .copy-single in
+    let call = l .before .before .before .copy-blocks in
     λ j. finish (j .source) (j .destination) (j .sourceFormed) (j .destinationFormed) (a .source-size) (a .destination-size) (j .sourceSize) (j .destinationSize) (a .count) (a .src .now) (a .dst .now) (top .pre .3) (l .loop .i) (l .loop .total) (l .loop .dst) (omega arith) (l .loop .inv .3 j (a .dst .now) (call .kept .1 .0) (top .pre .3) (call .ensures .1 j))
 
 pub copy-records-spec : {M : Type 1} → statement M

@@ -10,7 +10,7 @@ use Rattle.easy.proofs.Lent.{lent-room}
 use Rattle.loops.specs.Stops.{stopBy}
 use Rattle.loops.proofs.Lists.{row-within}
 use Rattle.loops.proofs.Jobs.{ready, job-scan}
-use Rattle.loops.proofs.ScanTurns.{stop-start, stop-end, stop-found, stop-turn}
+use Rattle.loops.proofs.ScanTurns.{stop-end, stop-found, stop-turn}
 use Rattle.scan_loop.proofs.first_exception.Statement.{statement}
 use Rattle.scan_loop.proofs.first_exception.Tie as tie
 
@@ -21,42 +21,37 @@ Inv-loop src c s plan n ws wd words i₀ i =
 abbrev μ-loop : tie.MeasureT-loop
 μ-loop src c s plan n ws wd words i₀ i = c - i
 
-loop-holds : tie.Need-loop-holds Inv-loop μ-loop
-loop-holds c =
-    let a = c .before .before .before .before .before .args in
-    (omega arith, λ d j. stop-start (planOf (j .source) (j .destination)) (a .source-size) (a .src .now) (a .count))
-
 mul-first-raising : tie.Need-mul-first-raising Inv-loop μ-loop
-mul-first-raising c = omega (arith, row-within (c .before .before .before .before .before .before .before .args .source-size) (c .loop-test .taken))
+mul-first-raising c = omega (arith, row-within (c .before .before .before .before .before .before .before .before .args .source-size) (c .loop-test .taken))
 
 sub-first-raising : tie.Need-sub-first-raising Inv-loop μ-loop
-sub-first-raising c = omega (arith, row-within (c .before .before .before .before .before .before .before .args .source-size) (c .loop-test .taken))
+sub-first-raising c = omega (arith, row-within (c .before .before .before .before .before .before .before .before .args .source-size) (c .loop-test .taken))
 
 part-first-raising-start : tie.Need-part-first-raising-start Inv-loop μ-loop
-part-first-raising-start c = omega (arith, row-within (c .before .before .before .before .before .before .before .args .source-size) (c .loop-test .taken))
+part-first-raising-start c = omega (arith, row-within (c .before .before .before .before .before .before .before .before .args .source-size) (c .loop-test .taken))
 
 first-raising-requires : tie.Need-first-raising-requires Inv-loop μ-loop
 first-raising-requires c κs =
-    let a = c .before .before .before .before .before .before .before .before .args in
-    (c .before .before .before .before .before .before .before .before .pre .0 .0, ready (c .before .before .before .before .before .before .before .before .pre .0 .1) (lent-room (c .before .before .loop .i * a .source-size) (a .source-size) (a .src .now) (omega (arith, row-within (c .before .before .before .before .before .before .before .before .args .source-size) (c .before .loop-test .taken)))) (le-refl _))
+    let a = c .before .before .before .before .before .before .before .before .before .args in
+    (c .before .before .before .before .before .before .before .before .before .pre .0 .0, ready (c .before .before .before .before .before .before .before .before .before .pre .0 .1) (lent-room (c .before .before .loop .i * a .source-size) (a .source-size) (a .src .now) (omega (arith, row-within (c .before .before .before .before .before .before .before .before .before .args .source-size) (c .before .loop-test .taken)))) (le-refl _))
 
 returns : tie.Need-returns Inv-loop μ-loop
 returns c =
-    let a = c .before .before .before .before .before .before .before .before .before .before .before .before .args in
+    let a = c .before .before .before .before .before .before .before .before .before .before .before .before .before .args in
     let l = c .before .before .before .before .before .before .loop in
     let r = c .before .before .before .first-raising in
-    λ d j. stop-found (planOf (j .source) (j .destination)) (a .source-size) (a .src .now) (a .count) (l .i) _ _ _ (r .result) (omega arith) (l .inv .1 d j) (job-scan j (a .src .now) (l .i * a .source-size) (r .result) (omega (arith, row-within (c .before .before .before .before .before .before .before .before .before .before .before .before .args .source-size) (c .before .before .before .before .before .loop-test .taken))) (r .ensures)) (c .before .b .given .1)
+    λ d j. stop-found (planOf (j .source) (j .destination)) (a .source-size) (a .src .now) (a .count) (l .i) _ _ _ (r .result) (omega arith) (l .inv .1 d j) (job-scan j (a .src .now) (l .i * a .source-size) (r .result) (omega (arith, row-within (c .before .before .before .before .before .before .before .before .before .before .before .before .before .args .source-size) (c .before .before .before .before .before .loop-test .taken))) (r .ensures)) (c .before .b .given .1)
 
 loop-again : tie.Need-loop-again Inv-loop μ-loop
 loop-again c =
-    let a = c .before .before .before .before .before .before .before .before .before .before .before .args in
+    let a = c .before .before .before .before .before .before .before .before .before .before .before .before .args in
     let l = c .before .before .before .before .before .loop in
     let r = c .before .before .first-raising in
-    (omega arith, λ d j. stop-turn (planOf (j .source) (j .destination)) (a .source-size) (a .src .now) (a .count) (l .i) (r .result) (omega arith) (l .inv .1 d j) (job-scan j (a .src .now) (l .i * a .source-size) (r .result) (omega (arith, row-within (c .before .before .before .before .before .before .before .before .before .before .before .args .source-size) (c .before .before .before .before .loop-test .taken))) (r .ensures)) (c .enum-told .given .1))
+    (omega arith, λ d j. stop-turn (planOf (j .source) (j .destination)) (a .source-size) (a .src .now) (a .count) (l .i) (r .result) (omega arith) (l .inv .1 d j) (job-scan j (a .src .now) (l .i * a .source-size) (r .result) (omega (arith, row-within (c .before .before .before .before .before .before .before .before .before .before .before .before .args .source-size) (c .before .before .before .before .loop-test .taken))) (r .ensures)) (c .enum-told .given .1))
 
 returns-2 : tie.Need-returns-2 Inv-loop μ-loop
 returns-2 c =
-    let a = c .before .before .before .before .before .before .before .args in
+    let a = c .before .before .before .before .before .before .before .before .args in
     λ d j. stop-end (planOf (j .source) (j .destination)) (a .source-size) (a .src .now) (a .count) (c .before .loop .i) (omega arith) (c .before .loop .inv .1 d j)
 
 pub first-exception-spec : {M : Type 1} → statement M
@@ -65,7 +60,8 @@ first-exception-spec =
     (tie.spec
     Inv-loop
     μ-loop
-    loop-holds
+    (λ c κs. c .before .before .before .before .before .pre)
+    (λ c. c .quiet-records .ensures)
     mul-first-raising
     sub-first-raising
     part-first-raising-start

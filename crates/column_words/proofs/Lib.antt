@@ -1,0 +1,4 @@
+pub mod Fit
+pub mod Fill
+pub mod Made
+pub mod Parts

@@ -1,0 +1,33 @@
+-- `real_columns::near::int_near` meets its contract: by whether the real is less than 2^53. Assumes nothing.
+use mathlib.Core.Path.{ap, _∙_}
+use native.Mathlib.Omega.{arith}
+use Rattle.number.specs.declared.Fitted.{Fitted}
+use Rattle.records.specs.Record.{raises}
+use Rattle.real_columns.proofs.NearInts.{ends-within, near-is}
+use borrow.Author.Needs.{needs}
+use Rattle.real_columns.proofs.near.int_near.Statement.{statement}
+use Rattle.real_columns.proofs.near.int_near.Tie as tie
+
+near-requires : tie.Need-near-requires
+near-requires c κs =
+    let s = c .before in
+    let m = s .args .m in
+    let ends = ends-within (m .signed) (m .precision) (s .pre .0 .some) (s .pre .1) (s .pre .2) (s .pre .3) in
+    (c .if1 .taken, ends .0, ends .1)
+
+returns : tie.Need-returns
+returns c =
+    let s = c .before .before in
+    let m = s .args .m in
+    let e = c .near .ensures in
+    let is = near-is (m .signed) (m .precision) (s .args .b) (s .pre .0 .some) (c .before .if1 .taken) (s .pre .1) (s .pre .2) (s .pre .3) (e .0) (e .1) in
+    (is .0, is .1, e .2, e .3)
+
+returns-2 : tie.Need-returns-2
+returns-2 c =
+    let s = c .before .before .before in
+    let f = c .before .to-int .ensures in
+    (ap (λ (g : Fitted). g .raw) (f .0), c .one-raised .ensures .0 ∙ ap (λ (g : Fitted). raises (g .kind)) (f .0), omega (arith, f .1, s .pre .3), c .one-raised .ensures .1)
+
+pub int-near-spec : {M : Type 1} → statement M
+int-near-spec = tie.close (tie.spec near-requires returns (λ c κs. search needs) (λ c κs. search needs) returns-2)

@@ -1,0 +1,72 @@
+-- `staged_block::replace_block` meets its contract: three calls over lent parts, put together by one law. Assumes nothing.
+use mathlib.Core.Path.{_∙_}
+use Prim.Native.Nat.{_*_, _-_}
+use native.Mathlib.Omega.{arith}
+use borrow.Rule.Slice.PartMut.{putMid}
+use lib.ListN.{length}
+use borrow.Author.Needs.{needs}
+use Rattle.easy.proofs.Lent.{lent-room}
+use Rattle.plans.specs.PlanWords.{entriesOf}
+use Rattle.staged_block.proofs.Staged.{staged-block}
+use Rattle.staged_block.proofs.replace_block.Statement.{statement}
+use Rattle.staged_block.proofs.replace_block.Tie as tie
+
+grouped-block-requires : tie.Need-grouped-block-requires
+grouped-block-requires c κs =
+    let start = c .before .before .before .before .before .before .before .before .before .before .before .before .before .before .before .before .before .before .before .before .before .before .before .before .before in
+    let a = start .args in
+    let at = a .i * a .destination-size in (
+      start .pre .0,
+      start .pre .1,
+      start .pre .2,
+      start .pre .3,
+      omega (arith, start .pre .4),
+      omega (arith, start .pre .4, start .pre .5),
+      omega (arith, start .pre .4, start .pre .6),
+      omega (arith, start .pre .7, c .before .before .before .before .before .before .before .before .before .before .before .before .copy-bytes .kept .0),
+      lent-room at (a .k * a .destination-size) (putMid at (length (a .buf .now) - at) (a .buf .now) (c .before .before .before .before .before .before .before .copy-bytes2 .last .0)) (omega (arith, start .pre .9, c .before .before .before .before .before .before .buf2 .given .1)),
+    )
+
+same-length : tie.Need-same-length
+same-length c = c .before .before .before .before .before .before .before .buf3 .given .1 ∙ c .before .before .before .before .before .before .before .before .before .before .before .before .before .before .before .buf2 .given .1
+
+returns : tie.Need-returns
+returns c =
+    let start = c .before .before .before .before .before .before .before .before .before .before .before .before .before .before .before .before .before .before .before .before .before .before .before .before .before .before .before .before .before .before .before .before .before .before in
+    let a = start .args in
+    let call = c .before .before .before .before .before .before .before .before .grouped-block .ensures in (
+      (λ words p plain. staged-block (a .source-size) (a .destination-size) (entriesOf p) (p .sound) (a .k) (a .buf .now) (a .background .now) _ _ _ _ (a .i * a .source-size) (a .i * a .destination-size) _ (start .pre .8) (start .pre .9) (start .pre .10) (c .before .before .before .before .before .before .before .before .before .before .before .before .before .before .before .before .before .before .before .before .before .copy-bytes .ensures) (c .before .before .before .before .before .before .before .before .before .before .before .before .before .before .before .before .copy-bytes2 .ensures) (call .0 words p plain)),
+      call .1,
+    )
+
+pub replace-block-spec : {M : Type 1} → statement M
+replace-block-spec =
+    tie.close
+    (tie.spec
+    (λ c. search needs)
+    (λ c. search needs)
+    (λ c. search needs)
+    (λ c. search needs)
+    (λ c. search needs)
+    (λ c κs. search needs)
+    (λ c. search needs)
+    (λ c. search needs)
+    (λ c. search needs)
+    (λ c. search needs)
+    (λ c. search needs)
+    (λ c. search needs)
+    (λ c. search needs)
+    (λ c. search needs)
+    (λ c. search needs)
+    (λ c κs. search needs)
+    (λ c. search needs)
+    (λ c. search needs)
+    (λ c. search needs)
+    (λ c. search needs)
+    grouped-block-requires
+    same-length
+    (λ c. search needs)
+    (λ c. search needs)
+    (λ c. search needs)
+    (λ c. search needs)
+    returns)

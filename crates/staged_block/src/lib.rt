@@ -1,0 +1,57 @@
+// A block of records in place: through the staging record, over their background.
+ghost use mathlib.Core.Path.{_≡_};
+ghost use mathlib.Core.List.{List};
+ghost use Prim.Native.Nat.{ℕ, _+_, _*_, _/_, _≤_};
+ghost use lib.ListN.{length, take, drop};
+ghost use Rattle.plans.specs.PlanWords.{Ready, entriesOf};
+ghost use Rattle.loops.specs.Steps.{put};
+ghost use Rattle.column_slots.specs.Slots.{Kept};
+ghost use Rattle.blocks.specs.Blocks.{eachOf, raisedOver};
+ghost use Rattle.block_columns.specs.Plain.{AllPlain};
+ghost use Rattle.block_parts.specs.Parts.{InParts};
+use block_parts::grouped_block;
+use loops::bytes::copy_bytes;
+
+// The k source records from record i on become result records over those of the background.
+pub fn replace_block(
+    buf: &mut [u8],
+    background: &[u8],
+    staging: &mut [u8],
+    i: usize,
+    k: usize,
+    source_size: usize,
+    destination_size: usize,
+    plan: &[u32],
+    entries: usize,
+    parts: usize,
+    source_half: &[u32],
+    destination_half: &[u32],
+    slots: &mut [u64],
+    narrow: &mut [u32],
+    wide: &mut [u64],
+) -> u64
+    requires { ⌜ ((words : List ℕ) × Ready «source_size» «destination_size» (now plan) entries (now «source_half») (now «destination_half») words × AllPlain words entries) × InParts parts («source_size» / parts) («destination_size» / parts) (entries / parts) «source_size» «destination_size» (now plan) entries (now «source_half») (now «destination_half») × Kept (now slots) (now «source_half») (now «destination_half») × (1024 ≤ length (now slots)) × (k ≤ 256) × (256 ≤ length (now narrow)) × (256 ≤ length (now wide)) × (k * «source_size» ≤ length (now staging)) × (i * «source_size» + k * «source_size» ≤ length (now buf)) × (i * «destination_size» + k * «destination_size» ≤ length (now buf)) × (i * «destination_size» + k * «destination_size» ≤ length (now background)) ⌝ }
+    ensures { λ r. ⌜ ((words : List ℕ) (p : Ready «source_size» «destination_size» (now (plan .entry)) entries (now («source_half» .entry)) (now («destination_half» .entry)) words) → AllPlain words entries → (now (buf .exit) ≡ put (i * «destination_size») (k * «destination_size») (eachOf (entriesOf p) «source_size» «destination_size» (take (k * «source_size») (drop (i * «source_size») (now (buf .entry)))) k (take (k * «destination_size») (drop (i * «destination_size») (now (background .entry))))) (now (buf .entry))) × (r ≡ raisedOver (entriesOf p) «source_size» (take (k * «source_size») (drop (i * «source_size») (now (buf .entry)))) k)) × Kept (now (slots .exit)) (now («source_half» .entry)) (now («destination_half» .entry)) ⌝ }
+{
+    copy_bytes(staging, &buf[i * source_size..], k * source_size);
+    copy_bytes(
+        &mut buf[i * destination_size..],
+        &background[i * destination_size..],
+        k * destination_size,
+    );
+    grouped_block(
+        staging,
+        &mut buf[i * destination_size..],
+        k,
+        source_size,
+        destination_size,
+        plan,
+        entries,
+        parts,
+        source_half,
+        destination_half,
+        slots,
+        narrow,
+        wide,
+    )
+}
