@@ -11,7 +11,9 @@
 
 #include "yirvagul.h"
 
-enum { REFUSED_STACK_BYTES = 16384, SMALL_RECORD = 128, RECORDS = 3, SHEET_MOST = 16384, RECORD_MOST = 4096 };
+enum { REFUSED_STACK_BYTES = 16384, SMALL_RECORD = 128, SHEET_MOST = 16384, RECORD_MOST = 4096 };
+/* Of the longest records a block and its rest, of the shortest several blocks. */
+enum { RECORDS = 25, RECORDS_MOST = 300, LOG_BYTES = RECORDS * RECORD_MOST };
 enum { PAINT = 0xa5, PAINTED = 1 << 19, GUARD = 1 << 20 };
 
 /* ---- sheets */
@@ -52,6 +54,9 @@ static const char *const KEPT = "int\t2\tBE\t3\t7\tkeep\tkeep\tsigned";
 static const char *const BITS = "bits\t1\tLE\t0\t8\tzero\tzero";
 static const char *const FOUR = "int\t4\tLE\t0\t32\tzero\tzero\tunsigned";
 static const char *const WIDE = "int\t8\tBE\t0\t64\tzero\tzero\tunsigned";
+static const char *const SIGNED_WIDE = "int\t8\tLE\t0\t64\tzero\tzero\tsigned";
+static const char *const ODD = "int\t7\tBE\t5\t47\tone\tkeep\tsigned";
+static const char *const WIDE_BITS = "bits\t8\tBE\t1\t63\tkeep\tone";
 static const char *const REAL = "real\t8\tLE";
 static const char *const OTHER_REAL = "real\t8\tBE";
 
@@ -137,6 +142,18 @@ static void one_of_many(Sheet *s, const char *base, int others) {
     for (i = 0; i < others; i++) named(s, "member", i + 1, 32 * i, array);
 }
 
+/* A leaf of every kind and an array of the first; the last has this size. */
+static void every_kind(Sheet *s, const char *const leaves[5], const char *base, int step, int size) {
+    int types[7], i, at = 0, b;
+    for (i = 0; i < 5; i++) types[i] = type(s, leaves[i]);
+    b = type(s, base);
+    types[5] = numbered(s, "enum\t%d", b, 0);
+    for (i = 0; i < 3; i++) named(s, "value", i, i * step, -1);
+    types[6] = numbered(s, "array\t%d\t%d", types[0], 3);
+    numbered(s, "comp\t%d", size, 0);
+    for (i = 0; i < 7; i++) named(s, "member", i, at, types[i]), at += i < 5 ? 8 : 2;
+}
+
 /* ---- pairs of sheets */
 
 typedef struct {
@@ -146,7 +163,7 @@ typedef struct {
     int is_wide; /* an int of the destination has more bits than a report takes */
 } Pair;
 
-static Pair pairs[40];
+static Pair pairs[48];
 static int pair_count;
 
 static Pair *pair(const char *name, int stops) {
@@ -157,6 +174,7 @@ static Pair *pair(const char *name, int stops) {
 }
 
 static void make_pairs(void) {
+    const char *many[5], *others[5];
     Pair *p;
     p = pair("one byte", 1), type(&p->from, BYTE), type(&p->to, SIGNED_BYTE);
     p = pair("one easy byte, growing", 0), type(&p->from, BYTE), type(&p->to, WIDE), p->is_wide = 1;
@@ -191,6 +209,18 @@ static void make_pairs(void) {
     p = pair("an enum 62 compounds deep in 4,096", 1), deep_enum(&p->from, 100, 1), deep_enum(&p->to, 101, 4096);
     p = pair("512 ints to doubles", 1), array_of(&p->from, WIDE, 512), array_of(&p->to, REAL, 512);
     p = pair("512 doubles of the other order", 0), array_of(&p->from, REAL, 512), array_of(&p->to, OTHER_REAL, 512);
+    p = pair("a wide number", 1), type(&p->from, WIDE), type(&p->to, SIGNED_WIDE), p->is_wide = 1;
+    p = pair("16 wide numbers", 1), array_of(&p->from, WIDE, 16), array_of(&p->to, SIGNED_WIDE, 16), p->is_wide = 1;
+    p = pair("512 wide numbers", 1), array_of(&p->from, WIDE, 512), array_of(&p->to, SIGNED_WIDE, 512), p->is_wide = 1;
+    p = pair("512 wide numbers to odd ones", 1), array_of(&p->from, WIDE, 512), array_of(&p->to, ODD, 512), p->is_wide = 1;
+    p = pair("wide flags", 1), array_of(&p->from, WIDE_BITS, 2), array_of(&p->to, BITS, 2);
+    p = pair("two doubles to bytes", 1), array_of(&p->from, REAL, 2), array_of(&p->to, BYTE, 2);
+    p = pair("an enum", 1), enum_array(&p->from, BYTE, 0, 9, 1, 1), enum_array(&p->to, PAIR, 0, 9, 3, 1);
+    many[0] = PAIR, many[1] = WIDE, many[2] = WIDE_BITS, many[3] = REAL, many[4] = WIDE;
+    others[0] = SIGNED_BYTE, others[1] = FOUR, others[2] = BITS, others[3] = KEPT, others[4] = OTHER_REAL;
+    p = pair("a leaf of every kind", 1), every_kind(&p->from, many, BYTE, 1, 128), every_kind(&p->to, others, PAIR, 7, 128);
+    p = pair("a leaf of every kind from 4,096", 1), every_kind(&p->from, many, BYTE, 1, 4096), every_kind(&p->to, others, PAIR, 7, 128);
+    p = pair("a leaf of every kind in 4,096", 1), every_kind(&p->from, many, BYTE, 1, 128), every_kind(&p->to, others, PAIR, 7, 4096);
     p = pair("62 enums that differ in 4,096", 1), many_enums(&p->from, 254, 62), many_enums(&p->to, 253, 4096);
 }
 
@@ -221,15 +251,15 @@ typedef struct {
     Form form;
     const char *what;
     const char *from, *to;
-    size_t from_len, to_len, room, words, table_len; /* words of a report's memory */
+    size_t from_len, to_len, lent, room, words, table_len; /* bytes lent of the first log; words of a report's memory */
     uint64_t count;
     uint32_t handling; /* of a setter, its argument */
     uint32_t number;   /* that the call answers */
     size_t most;       /* of stack */
 } Call;
 
-static uint8_t source[RECORDS * RECORD_MOST], place[RECORDS * RECORD_MOST], background[RECORDS * RECORD_MOST], list[YIRVAGUL_LIST_BYTES];
-static uint8_t output[YIRVAGUL_REPORT_BYTES], differences[YIRVAGUL_COMPARE_HEADER_BYTES + RECORDS * RECORD_MOST * YIRVAGUL_COMPARE_LINE_BYTES];
+static uint8_t source[LOG_BYTES], place[LOG_BYTES], background[LOG_BYTES], list[YIRVAGUL_LIST_BYTES];
+static uint8_t output[YIRVAGUL_REPORT_BYTES], differences[YIRVAGUL_COMPARE_HEADER_BYTES + LOG_BYTES * YIRVAGUL_COMPARE_LINE_BYTES];
 static int64_t memory[YIRVAGUL_REPORT_WORDS], held; /* held: the records of the report at entry */
 static uint32_t table[YIRVAGUL_TABLE_WORDS];
 static uint64_t answer[8];
@@ -254,7 +284,7 @@ static uint32_t run(const Call *c) {
         return yirvagul_report(from, c->from_len, to, c->to_len, c->count, place, sizeof place, background, sizeof background, memory, c->words, output,
                                c->room, table, c->table_len, answer);
     case COMPARE: /* the second log is of bytes 0 */
-        return yirvagul_compare(from, c->from_len, to, c->to_len, c->count, source, sizeof source, background, sizeof background, differences, c->room,
+        return yirvagul_compare(from, c->from_len, to, c->to_len, c->count, source, c->lent, background, sizeof background, differences, c->room,
                                 table, c->table_len, answer);
     case REACH: return yirvagul_reach(from, c->from_len, to, c->to_len, place, c->room, table, c->table_len, answer);
     case LIST: return yirvagul_leaf_list(from, c->from_len, list, c->room, table, c->table_len, answer);
@@ -314,10 +344,9 @@ static void must(int holds, const char *what) {
 static void run_on(const Call *c, uint8_t *stack, size_t size) {
     pthread_attr_t a;
     pthread_t t;
-    size_t i;
     static const uint32_t start[8] = {YIRVAGUL_INT, 4, YIRVAGUL_LE, 16, 16, 0, 0, YIRVAGUL_UNSIGNED};
     memcpy(layout, start, sizeof layout);
-    for (i = 0; i < sizeof place; i++) place[i] = source[i];
+    memcpy(place, source, sizeof place);
     memset(memory, 0, sizeof memory);
     memory[YIRVAGUL_REPORT_RECORDS] = held;
     running = c;
@@ -371,7 +400,8 @@ static Call call(Form form, const char *what, const Sheet *from, const Sheet *to
     c.room = form == LIST ? sizeof list : form == REPORT ? sizeof output : form == COMPARE ? sizeof differences : sizeof place;
     c.words = YIRVAGUL_REPORT_WORDS;
     c.table_len = YIRVAGUL_TABLE_WORDS;
-    c.count = RECORDS;
+    c.lent = sizeof source;
+    c.count = 1;
     return c;
 }
 
@@ -384,14 +414,30 @@ static size_t size_of(const Sheet *s) {
     return (size_t)answer[YIRVAGUL_ANSWER_COUNT];
 }
 
+static size_t most_of(const Pair *p) { return size_of(&p->to) <= SMALL_RECORD ? YIRVAGUL_SMALL_STACK_BYTES : YIRVAGUL_STACK_BYTES; }
+
+/* As many records as there is room for, several blocks at most. */
+static uint64_t records_of(const Pair *p) {
+    size_t from = size_of(&p->from), to = size_of(&p->to), records = LOG_BYTES / (from < to ? to : from);
+    return records < RECORDS_MOST ? records : RECORDS_MOST;
+}
+
+/* A log of bytes 0, of bytes 255, or of bytes 0 but for its last record. */
+static void fill(const Pair *p, uint64_t records, int high) {
+    size_t size = size_of(&p->from), last = (size_t)(records - 1) * size;
+    memset(source, high == 1 ? 255 : 0, sizeof source);
+    if (high == 2) memset(source + last, 255, size);
+}
+
 /* Every form, of records that fit and of records that may not; and checks 5 to 7. */
 static void test_converting(const Pair *p) {
-    size_t most = size_of(&p->to) <= SMALL_RECORD ? YIRVAGUL_SMALL_STACK_BYTES : YIRVAGUL_STACK_BYTES;
+    size_t most = most_of(p);
     int form, high, handling;
     for (form = COPYING; form <= IN_PLACE_PLAIN; form++) {
         Call c = call((Form)form, p->name, &p->from, &p->to), other;
-        for (high = 0; high < 2; high++) {
-            memset(source, high ? 255 : 0, sizeof source);
+        c.count = records_of(p);
+        for (high = 0; high < 3; high++) {
+            fill(p, c.count, high);
             for (handling = 0; handling <= takes_handling(c.form); handling++) {
                 c.handling = (uint32_t)handling;
                 expect(c, high && handling && p->stops ? YIRVAGUL_STOP : YIRVAGUL_DONE, most);
@@ -404,11 +450,12 @@ static void test_converting(const Pair *p) {
 
 /* The report of records that fit and of records that may not; and checks 10, 5 to 7 and 11. */
 static void test_report(const Pair *p) {
-    size_t most = size_of(&p->to) <= SMALL_RECORD ? YIRVAGUL_SMALL_STACK_BYTES : YIRVAGUL_STACK_BYTES;
+    size_t most = most_of(p);
     Call c = call(REPORT, p->name, &p->from, &p->to), other;
     int high;
-    for (high = 0; high < 2; high++) {
-        memset(source, high ? 255 : 0, sizeof source);
+    c.count = records_of(p);
+    for (high = 0; high < 3; high++) {
+        fill(p, c.count, high);
         expect(c, p->is_wide ? YIRVAGUL_CHANNEL : YIRVAGUL_DONE, most);
     }
     if (p->is_wide) return;
@@ -420,16 +467,17 @@ static void test_report(const Pair *p) {
 
 /* Two logs that are the same and two that differ, where the first's records may have numbers that the second's have not; and checks 5 to 7. */
 static void test_compare(const Pair *p) {
-    size_t most = size_of(&p->to) <= SMALL_RECORD ? YIRVAGUL_SMALL_STACK_BYTES : YIRVAGUL_STACK_BYTES;
+    size_t most = most_of(p);
     Call c = call(COMPARE, p->name, &p->from, &p->to), other;
     int high;
-    for (high = 0; high < 2; high++) {
-        memset(source, high ? 255 : 0, sizeof source);
+    c.count = records_of(p);
+    for (high = 0; high < 3; high++) {
+        fill(p, c.count, high);
         expect(c, YIRVAGUL_DONE, most);
         other = c, other.room = YIRVAGUL_COMPARE_HEADER_BYTES, expect(other, high ? YIRVAGUL_ROOM : YIRVAGUL_DONE, most);
     }
     other = c, other.count = 65537, expect(other, YIRVAGUL_COUNT, most);
-    other = c, other.count = 3 * RECORDS * RECORD_MOST, expect(other, YIRVAGUL_ROOM, most);
+    other = c, other.lent = 0, expect(other, YIRVAGUL_ROOM, most);
     other = c, other.room = 0, expect(other, YIRVAGUL_ROOM, most);
 }
 

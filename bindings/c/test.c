@@ -96,6 +96,64 @@ static void test_in_place(void) {
                   7, 0, 0, 0, 0, 0, "ROOM, in place");
 }
 
+/* Logs of 300 records, against what their bytes say: a pressure of 12 bits in the top of two bytes, and a signed byte; the byte in two, a gap, and the
+ * pressure in 10 bits between kept ones. */
+enum { MANY = 300, SHORT_BYTES = 3, LONG_BYTES = 5 };
+#define SHORT_SHEET "int\t2\tBE\t4\t12\tzero\tzero\tunsigned\n" SIGNED_BYTE "comp\t3\nmember\ta\t0\t0\nmember\tb\t2\t1\n"
+#define LONG_SHEET "int\t2\tLE\t2\t10\tkeep\tkeep\tunsigned\n" PAIR "comp\t5\nmember\tb\t0\t1\nmember\ta\t3\t0\n"
+
+static uint8_t shorts[MANY * SHORT_BYTES], longs[MANY * LONG_BYTES], under[MANY * LONG_BYTES], lent[MANY * LONG_BYTES];
+
+/* Fills both logs: the pressure of record `unfit`, if there is one, does not fit the long record and is clamped there. */
+static void fill_logs(int unfit) {
+    int i;
+    for (i = 0; i < MANY * LONG_BYTES; i++) under[i] = (uint8_t)(i * 37 % 251);
+    for (i = 0; i < MANY; i++) {
+        unsigned a = (unsigned)i * 7 % 1024 + (i == unfit ? 2048 : 0), clamped = a > 1023 ? 1023 : a;
+        uint8_t b = (uint8_t)(i % 128), *from = shorts + i * SHORT_BYTES, *to = longs + i * LONG_BYTES, *below = under + i * LONG_BYTES;
+        from[0] = (uint8_t)(a >> 4), from[1] = (uint8_t)(a << 4), from[2] = b;
+        to[0] = 0, to[1] = b, to[2] = below[2];
+        to[3] = (uint8_t)(clamped << 2 | (below[3] & 3)), to[4] = (uint8_t)(clamped >> 6 | (below[4] & 0xf0));
+    }
+}
+
+static uint32_t placed(const char *from, const char *to, uint32_t handling, const uint8_t *background, size_t len) {
+    return yirvagul_convert_in_place((const uint8_t *)from, strlen(from), (const uint8_t *)to, strlen(to), MANY, handling, lent, sizeof lent, background, len,
+                                     table, YIRVAGUL_TABLE_WORDS, answer);
+}
+
+static void test_many(void) {
+    static const int unfit[] = {-1, 0, 7, 8, 255, 256, 291, 292, 299};
+    static const uint8_t zeros[MANY * LONG_BYTES];
+    const char *source = (const char *)shorts;
+    size_t i;
+    for (i = 0; i < sizeof unfit / sizeof unfit[0]; i++) {
+        uint64_t raised = unfit[i] >= 0, given;
+        fill_logs(unfit[i]);
+        memcpy(lent, under, sizeof lent);
+        expect_answer(copying(SHORT_SHEET, LONG_SHEET, MANY, YIRVAGUL_CLAMP, source, sizeof shorts, lent, sizeof lent), 0, raised, 0, 0, 0, 0, "copying 300");
+        expect(memcmp(lent, longs, sizeof lent) == 0, "300 copied records");
+        memset(lent, 0x77, sizeof lent), memcpy(lent, shorts, sizeof shorts);
+        expect_answer(placed(SHORT_SHEET, LONG_SHEET, YIRVAGUL_CLAMP, under, sizeof under), 0, raised, 0, 0, 0, 0, "300 in place");
+        expect(memcmp(lent, longs, sizeof lent) == 0, "300 records grown in place");
+        if (unfit[i] < 0) {
+            expect_answer(placed(LONG_SHEET, SHORT_SHEET, YIRVAGUL_STOP_FIRST, zeros, sizeof shorts), 0, 0, 0, 0, 0, 0, "300 back in place");
+            expect(memcmp(lent, shorts, sizeof shorts) == 0, "300 records shrunk in place");
+            expect(memcmp(lent + sizeof shorts, zeros, sizeof lent - sizeof shorts) == 0, "a cleared tail behind 300 records");
+            continue;
+        }
+        given = (uint64_t)unfit[i] * 7 % 1024 + 2048;
+        memcpy(lent, under, sizeof lent);
+        expect_stop(copying(SHORT_SHEET, LONG_SHEET, MANY, YIRVAGUL_STOP_FIRST, source, sizeof shorts, lent, sizeof lent), (uint64_t)unfit[i], 3,
+                    YIRVAGUL_ABOVE, YIRVAGUL_GIVEN_PLUS, given, "STOP of 300");
+        expect(memcmp(lent, under, sizeof lent) == 0, "STOP of 300 leaves the destination");
+        memcpy(lent, shorts, sizeof shorts);
+        expect_stop(placed(SHORT_SHEET, LONG_SHEET, YIRVAGUL_STOP_FIRST, under, sizeof under), (uint64_t)unfit[i], 3, YIRVAGUL_ABOVE, YIRVAGUL_GIVEN_PLUS,
+                    given, "STOP of 300 in place");
+        expect(memcmp(lent, shorts, sizeof shorts) == 0, "STOP of 300 leaves the buffer");
+    }
+}
+
 /* The 64 bits of a real, from its bytes in big-endian order. */
 static uint64_t bits_of(const char *real) {
     uint64_t bits = 0;
@@ -586,6 +644,7 @@ static void test_names(void) {
 int main(void) {
     test_copying();
     test_in_place();
+    test_many();
     test_reals();
     test_given();
     test_symbols();

@@ -149,6 +149,46 @@ fn pressures_as_doubles_and_back() {
     assert_eq!(folder.read("back.log")[7 * 7 + 3..7 * 7 + 5], [0, 0]);
 }
 
+/// A pressure of 12 bits in the top of two bytes, and a signed byte.
+const SHORT: &[u8] = b"int\t2\tBE\t4\t12\tzero\tzero\tunsigned\nint\t1\tLE\t0\t8\tzero\tzero\tsigned\ncomp\t3\nmember\ta\t0\t0\nmember\tb\t2\t1\n";
+
+/// The byte in two, a gap, and the pressure in 10 bits.
+const WIDER: &[u8] = b"int\t2\tLE\t2\t10\tzero\tone\tunsigned\nint\t2\tBE\t0\t16\tzero\tzero\tunsigned\ncomp\t5\nmember\tb\t0\t1\nmember\ta\t3\t0\n";
+
+#[test]
+fn three_hundred_records_of_ints() {
+    let folder = Folder::new("ints");
+    folder.write("short.sheet", SHORT);
+    folder.write("wider.sheet", WIDER);
+    let mut numbers: Vec<(u16, u8)> = (0..300).map(|i| (i * 7 % 1024, (i % 128) as u8)).collect();
+    let short = |numbers: &[(u16, u8)]| -> Vec<u8> {
+        let record = |&(a, b): &(u16, u8)| [(a >> 4) as u8, (a << 4) as u8, b];
+        numbers.iter().flat_map(record).collect()
+    };
+    let wider = |numbers: &[(u16, u8)]| -> Vec<u8> {
+        let record = |&(a, b): &(u16, u8)| {
+            let [low, high] = (a.min(1023) << 2 | 0xf000).to_le_bytes();
+            [0, b, 0, low, high]
+        };
+        numbers.iter().flat_map(record).collect()
+    };
+    folder.write("short.log", &short(&numbers));
+    folder
+        .run("convert short.sheet wider.sheet short.log -")
+        .wrote(&wider(&numbers), "300 records, 0 exceptions\n");
+    folder.write("wider.log", &wider(&numbers));
+    folder
+        .run("convert wider.sheet short.sheet wider.log -")
+        .wrote(&short(&numbers), "300 records, 0 exceptions\n");
+    for record in [0, 255, 256, 299] {
+        numbers[record].0 += 2048;
+    }
+    folder.write("short.log", &short(&numbers));
+    folder
+        .run("convert --clamp short.sheet wider.sheet short.log -")
+        .wrote(&wider(&numbers), "300 records, 4 exceptions\n");
+}
+
 #[test]
 fn one_exception_is_said_in_the_singular() {
     let folder = Folder::new("singular");

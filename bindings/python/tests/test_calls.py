@@ -67,6 +67,71 @@ class Results(unittest.TestCase):
             self.assertEqual((caught.exception.number, caught.exception.line), (Number.SOURCE, 0))
 
 
+class Blocks(unittest.TestCase):
+    """Logs of 300 records, against what their bytes say."""
+
+    # a pressure of 12 bits in the top of two bytes, and a signed byte
+    SHORT = "int\t2\tBE\t4\t12\tzero\tzero\tunsigned\n" + SIGNED + "comp\t3\nmember\ta\t0\t0\nmember\tb\t2\t1\n"
+    # the byte in two, a gap, and the pressure in 10 bits between kept ones
+    LONG = "int\t2\tLE\t2\t10\tkeep\tkeep\tunsigned\n" + PAIR + "comp\t5\nmember\tb\t0\t1\nmember\ta\t3\t0\n"
+    RECORDS = 300
+    BACKGROUND = bytes(at * 37 % 251 for at in range(5 * 300))
+
+    def numbers(self, *unfit):
+        """Those that fit the long record, but for some records."""
+        return [(i * 7 % 1024 + (2048 if i in unfit else 0), i % 128) for i in range(self.RECORDS)]
+
+    def short(self, numbers):
+        return b"".join((a << 4).to_bytes(2, "big") + bytes((b,)) for a, b in numbers)
+
+    def long(self, numbers):
+        """The long records over the background, clamped."""
+        out = bytearray()
+        for i, (a, b) in enumerate(numbers):
+            under = self.BACKGROUND[5 * i : 5 * i + 5]
+            kept = int.from_bytes(under[3:], "little") & 0xF003
+            out += bytes((0, b, under[2])) + (min(a, 1023) << 2 | kept).to_bytes(2, "little")
+        return bytes(out)
+
+    def test_copying(self):
+        numbers = self.numbers(0, 7, 255, 256, 299)
+        out, plain = bytearray(self.BACKGROUND), bytearray(self.BACKGROUND)
+        log, wanted = self.short(numbers), self.long(numbers)
+        self.assertEqual(yirvagul.convert_copying(self.SHORT, self.LONG, 300, CLAMP, log, out), 5)
+        self.assertEqual(yirvagul.convert_copying_plain(self.SHORT, self.LONG, 300, log, plain), 5)
+        self.assertEqual((out, plain), (wanted, wanted))
+
+    def test_in_place(self):
+        numbers = self.numbers(0, 7, 255, 256, 299)
+        log = self.short(numbers) + b"\x77" * 600
+        buffer, plain = bytearray(log), bytearray(log)
+        self.assertEqual(yirvagul.convert_in_place(self.SHORT, self.LONG, 300, CLAMP, buffer, self.BACKGROUND), 5)
+        self.assertEqual(yirvagul.convert_in_place_plain(self.SHORT, self.LONG, 300, plain, self.BACKGROUND), 5)
+        self.assertEqual((buffer, plain), (self.long(numbers), self.long(numbers)))
+
+    def test_shrinking(self):
+        log, wanted = self.long(self.numbers()), self.short(self.numbers()) + bytes(600)
+        buffer, plain = bytearray(log), bytearray(log)
+        self.assertEqual(yirvagul.convert_in_place(self.LONG, self.SHORT, 300, STOP, buffer, b"\x55" * 900), 0)
+        self.assertEqual(yirvagul.convert_in_place_plain(self.LONG, self.SHORT, 300, plain, b"\x55" * 900), 0)
+        self.assertEqual((buffer, plain), (wanted, wanted))
+
+    def test_stop(self):
+        for record in (0, 7, 8, 255, 256, 291, 292, 298):
+            log = self.short(self.numbers(record, 299))
+            out, buffer = bytearray(self.BACKGROUND), bytearray(log + b"\x77" * 600)
+            for convert, lent in (
+                (yirvagul.convert_copying, (log, out)),
+                (yirvagul.convert_in_place, (buffer, self.BACKGROUND)),
+            ):
+                with self.assertRaises(Refusal) as caught:
+                    convert(self.SHORT, self.LONG, 300, STOP, *lent)
+                refusal = caught.exception
+                self.assertEqual((refusal.number, refusal.record, refusal.at), (Number.STOP, record, 3))
+                self.assertEqual(refusal.given, record * 7 % 1024 + 2048)
+            self.assertEqual((out, buffer), (self.BACKGROUND, log + b"\x77" * 600))
+
+
 class Counts(unittest.TestCase):
     def call(self, count):
         return yirvagul.convert_copying(BYTE, BYTE, count, STOP, b"\x05", bytearray(1))

@@ -1,4 +1,5 @@
 //! Tests of the calls, and of what is said of a refusal.
+mod blocks;
 mod calls;
 mod compares;
 mod explained;

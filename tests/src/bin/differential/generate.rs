@@ -158,7 +158,7 @@ pub fn showing(random: &mut Random) -> (Model, Model) {
             2 => (Line::Int(atomic(random, 8)), Line::Real(order(random))),
             3 => (Line::Real(order(random)), Line::Int(atomic(random, 8))),
             4 => (Line::Real(order(random)), Line::Real(order(random))),
-            _ => return kept_enums(random, from, to),
+            _ => return kept_enums(random, from, to, 0),
         };
         (from.push(first), to.push(second))
     });
@@ -169,11 +169,17 @@ pub fn showing(random: &mut Random) -> (Model, Model) {
     (from, to)
 }
 
-/// Two enums, the second with every symbol of the first.
-fn kept_enums(random: &mut Random, from: &mut Model, to: &mut Model) -> (usize, usize) {
+/// Two enums, the second with every symbol of the first, if its base has so many
+/// numbers.
+pub fn kept_enums(
+    random: &mut Random,
+    from: &mut Model,
+    to: &mut Model,
+    fewest: u64,
+) -> (usize, usize) {
     let base = from.push(Line::Int(atomic(random, 4)));
     let mut values = Vec::new();
-    for _ in 0..random.below(4) {
+    for _ in 0..random.between(fewest, 3) {
         add_value(random, from.range(base), &mut values);
     }
     // One that differs from another in its lowest bit alone.
@@ -204,7 +210,7 @@ fn kept_enums(random: &mut Random, from: &mut Model, to: &mut Model) -> (usize, 
     (first, second)
 }
 
-fn unsigned(layout: Atomic) -> Line {
+pub fn unsigned(layout: Atomic) -> Line {
     Line::Bits(Atomic {
         signed: false,
         ..layout
@@ -342,7 +348,7 @@ pub fn new_number(
 
 /// Two compounds of at most so many members under the same names; `pair` makes
 /// the types of a member in both sheets.
-fn paired(
+pub fn paired(
     random: &mut Random,
     most: u64,
     pair: impl Fn(&mut Random, &mut Model, &mut Model) -> (usize, usize),

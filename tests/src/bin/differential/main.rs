@@ -3,6 +3,9 @@
 //! `differential` runs all cases of the fixed seed, `--seed N` those of
 //! another, `--cases M` so many, and `--seed N --case K` one alone.
 
+mod block_events;
+mod block_sheets;
+mod blocks;
 mod capi;
 mod compare_events;
 mod compare_laws;
@@ -122,7 +125,7 @@ fn run_cases(options: &Options) -> bool {
 }
 
 fn run_case(random: &mut Random, tally: &mut Tally) -> Result<(), String> {
-    let choice = random.below(1540);
+    let choice = random.below(1606);
     let (kind, result) = match choice {
         0 => (
             "conversion of 65,536 records",
@@ -172,7 +175,8 @@ fn run_case(random: &mut Random, tally: &mut Tally) -> Result<(), String> {
             compares::case(random, tally, 25),
         ),
         1460..=1489 => ("comparison's laws", compare_laws::case(random, tally)),
-        _ => ("symbols", symbols::case(random, tally)),
+        1490..=1539 => ("symbols", symbols::case(random, tally)),
+        _ => ("conversion in blocks", blocks::case(random, tally)),
     };
     tally.saw(&format!("case: {kind}"));
     result.map_err(|fault| format!("({kind}) {fault}"))

@@ -37,12 +37,32 @@ pub fn long_case(random: &mut Random, tally: &mut Tally) -> Result<(), String> {
     let model = convert::few_bytes(random);
     let reader = derive(random, &model);
     let reader = reader_of(random, 0, &reader);
-    let mut run = make(random, 0, model.text(), reader.text());
-    let (from, to) = (run.source_sheet.clone(), run.reader_sheet.clone());
+    let (from, reader) = (model.text(), reader.text());
     let count = 65_536;
-    with_types(&from, &to, |from, to, matches| {
+    let log = with_types(&from, &reader, |from, _, matches| {
+        records(random, from.size(), count, matches)
+    });
+    match log {
+        Some(log) => case_of_log(random, tally, (from, reader), count, log),
+        None => {
+            let run = make(random, 0, from, reader);
+            finish(random, tally, &run)
+        }
+    }
+}
+
+/// A call with two sheets that have a path, and with so many source records.
+pub fn case_of_log(
+    random: &mut Random,
+    tally: &mut Tally,
+    (from, reader): (Vec<u8>, Vec<u8>),
+    count: u64,
+    log: Vec<u8>,
+) -> Result<(), String> {
+    let mut run = make(random, 0, from.clone(), reader.clone());
+    with_types(&from, &reader, |from, to, _| {
         run.count = count;
-        run.log = records(random, from.size(), count, matches);
+        run.log = log;
         let longer = from.size().max(to.size()) * count;
         resize(random, &mut run.log, longer as usize);
         run.background = random.bytes((to.size() * count) as usize);

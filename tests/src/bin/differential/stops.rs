@@ -49,7 +49,7 @@ pub fn case(random: &mut Random, tally: &mut Tally) -> Result<(), String> {
 
 /// A number of the source leaf that raises an exception, often an end of all
 /// numbers, if one is easily found.
-fn raising(random: &mut Random, pair: &Match) -> Option<i128> {
+pub fn raising(random: &mut Random, pair: &Match) -> Option<i128> {
     let (low, high) = number::range(number::layout(pair.from.datatype));
     let raises = |number: &i128| {
         let (_, kind) = number::convert(pair.from.datatype, pair.to.datatype, *number);

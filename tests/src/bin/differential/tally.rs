@@ -1,6 +1,7 @@
 //! What was seen, and what must have been seen for the tests to mean
 //! something.
 
+use crate::block_events;
 use crate::compare_events;
 use crate::fields;
 use crate::reaches;
@@ -150,6 +151,7 @@ impl Tally {
         let all = lists.iter().flat_map(|list| list.iter());
         let mut needed: Vec<String> = all.map(|what| what.to_string()).collect();
         needed.extend(answers());
+        needed.extend(block_events::needed());
         needed.retain(|what| !self.0.contains_key(what));
         needed
     }
