@@ -4,7 +4,7 @@ ghost use Prim.Native.Nat.{_*_, _≤_};
 ghost use lib.ListN.{length};
 ghost use Rattle.records.specs.Records.{readings, exceptions, copyResult};
 ghost use Rattle.plans.specs.PlanWords.{Job};
-use copy_blocks::copy_blocks;
+use bulk_records::copy_bulk;
 use one_record::write_record;
 
 // Converts so many source records in src into as many destination records in dst, and counts the exceptions.
@@ -23,7 +23,7 @@ pub fn copy_records(
     requires { ⌜ Job «source_size» «destination_size» (now plan) entries (now «source_half») (now «destination_half») (now words) × (count ≤ 65536) × (count * «source_size» ≤ length (now src)) × (count * «destination_size» ≤ length (now dst)) ⌝ }
     ensures { λ r. ⌜ ((j : Job «source_size» «destination_size» (now (plan .entry)) entries (now («source_half» .entry)) (now («destination_half» .entry)) (now (words .entry))) → (now (dst .exit) ≡ copyResult (j .source) (j .destination) count (now (src .entry)) (now (dst .entry))) × (r ≡ exceptions (j .source) (j .destination) count (readings (j .source) (j .destination) (now (src .entry))))) ⌝ }
 {
-    let done = copy_blocks(
+    let done = copy_bulk(
         src,
         dst,
         count,

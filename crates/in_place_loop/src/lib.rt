@@ -4,9 +4,9 @@ ghost use Prim.Native.Nat.{_*_, _≤_};
 ghost use lib.ListN.{length, take, drop};
 ghost use Rattle.records.specs.Records.{readings, exceptions, inPlaceResult};
 ghost use Rattle.plans.specs.PlanWords.{Job};
+use bulk_records::bulk_down;
+use bulk_records::bulk_up;
 use loops::bytes::clear_bytes;
-use place_blocks::blocks_down;
-use place_blocks::blocks_up;
 use staged_record::replace_record;
 
 // From the first record up: no result record reaches a later source record where they do not grow.
@@ -26,7 +26,7 @@ fn replace_up(
     ensures { λ r. ⌜ ((j : Job «source_size» «destination_size» (now (plan .entry)) entries (now («source_half» .entry)) (now («destination_half» .entry)) (now (words .entry))) → (take (count * «destination_size») (now (buf .exit)) ≡ take (count * «destination_size») (inPlaceResult (j .source) (j .destination) count (now (buf .entry)) (now (background .entry)))) × (drop (count * «source_size») (now (buf .exit)) ≡ drop (count * «source_size») (now (buf .entry))) × (r ≡ exceptions (j .source) (j .destination) count (readings (j .source) (j .destination) (now (buf .entry))))) ⌝ }
 {
     let mut staging = [0u8; 4096];
-    let done = blocks_up(
+    let done = bulk_up(
         buf,
         background,
         &mut staging,
@@ -77,7 +77,7 @@ fn replace_down(
     ensures { λ r. ⌜ ((j : Job «source_size» «destination_size» (now (plan .entry)) entries (now («source_half» .entry)) (now («destination_half» .entry)) (now (words .entry))) → (now (buf .exit) ≡ inPlaceResult (j .source) (j .destination) count (now (buf .entry)) (now (background .entry))) × (r ≡ exceptions (j .source) (j .destination) count (readings (j .source) (j .destination) (now (buf .entry))))) ⌝ }
 {
     let mut staging = [0u8; 4096];
-    let done = blocks_down(
+    let done = bulk_down(
         buf,
         background,
         &mut staging,

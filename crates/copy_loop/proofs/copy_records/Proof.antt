@@ -33,7 +33,7 @@ rows c =
 loop-holds : tie.Need-loop-holds Inv-loop μ-loop
 loop-holds c =
     let top = c .before .before .before .before .before .before .before .before .before .before in
-    let call = c .before .before .copy-blocks in
+    let call = c .before .before .copy-bulk in
     let j = top .pre .0 in
     (call .ensures .0, refl, omega (arith, call .ensures .1 j .2, all-most j (top .args .src .now) (call .result .records)), λ j was same room done. done)
 
@@ -87,14 +87,14 @@ loop-again c =
     (omega arith, lent-length (l .loop .i * a .destination-size) (l .loop .dst) (c .before .before .write-record .last .1 .0) (omega (arith, rows (c .before .before .before .before .before))) (c .before .before .write-record .kept .1 .0) ∙ l .loop .inv .1, omega (arith, small (c .before .before)), λ j was same room done. turn (j .source) (j .destination) (j .sourceFormed) (j .destinationFormed) (a .source-size) (a .destination-size) (j .sourceSize) (j .destinationSize) (a .count) (a .src .now) was room (l .loop .i) (l .loop .total) _ (l .loop .dst) _ (omega arith) (l .loop .inv .1 ∙ same) (l .loop .inv .3 j was same room done) (called (c .before .before) j))
 
 same-length : tie.Need-same-length Inv-loop μ-loop
-same-length c = c .before .loop .inv .1 ∙ c .before .before .before .before .copy-blocks .kept .1 .0
+same-length c = c .before .loop .inv .1 ∙ c .before .before .before .before .copy-bulk .kept .1 .0
 
 returns : tie.Need-returns Inv-loop μ-loop
 returns c =
     let top = c .before .before .before .before .before .before .before .before .before .before .before .before in
     let a = top .args in
     let l = c .before in
-    let call = l .before .before .before .copy-blocks in
+    let call = l .before .before .before .copy-bulk in
     λ j. finish (j .source) (j .destination) (j .sourceFormed) (j .destinationFormed) (a .source-size) (a .destination-size) (j .sourceSize) (j .destinationSize) (a .count) (a .src .now) (a .dst .now) (top .pre .3) (l .loop .i) (l .loop .total) (l .loop .dst) (omega arith) (l .loop .inv .3 j (a .dst .now) (call .kept .1 .0) (top .pre .3) (call .ensures .1 j))
 
 pub copy-records-spec : {M : Type 1} → statement M

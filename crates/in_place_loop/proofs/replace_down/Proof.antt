@@ -22,14 +22,14 @@ Inv-loop buf₀ background c s d plan n ws wd words staging₀ total₀ i₀ buf
 abbrev μ-loop : tie.MeasureT-loop
 μ-loop buf₀ background c s d plan n ws wd words staging₀ total₀ i₀ buf staging total i = i
 
-blocks-down-requires : tie.Need-blocks-down-requires Inv-loop μ-loop
-blocks-down-requires c κs =
+bulk-down-requires : tie.Need-bulk-down-requires Inv-loop μ-loop
+bulk-down-requires c κs =
     let p = c .before .before .before .before .before .before .before .before .pre in
     (p .0, p .1, p .2, omega arith, p .3, p .4)
 
 loop-holds : tie.Need-loop-holds Inv-loop μ-loop
 loop-holds c =
-    let o = c .before .before .before .before .blocks-down in
+    let o = c .before .before .before .before .bulk-down in
     (omega arith, refl, o .kept .1 .1 .0, λ j first same down. down)
 
 replace-record-requires : tie.Need-replace-record-requires Inv-loop μ-loop
@@ -37,7 +37,7 @@ replace-record-requires c κs =
     let start = c .before .before .before .before .before .before .before .before .before .before .before .before .before .before .before .before .before in
     let a = start .args in
     let l = c .before .before .before .loop in
-    let o = c .before .before .before .before .before .before .before .before .blocks-down in
+    let o = c .before .before .before .before .before .before .before .before .bulk-down in
     let same = o .kept .0 in
     let hi : (l .i - 1) < a .count = omega arith in (
       start .pre .0,
@@ -54,7 +54,7 @@ counted c =
     let a = start .args in
     let l = c .before .before .before .before .before .before .before .loop in
     let o = c .before .before .before .replace-record in
-    let done = c .before .before .before .before .before .before .before .before .before .before .before .before .blocks-down in
+    let done = c .before .before .before .before .before .before .before .before .before .before .before .before .bulk-down in
     let here = c .before .before .before .before .before .before .loop-test .taken in
     let back : l .i ≡ (l .i - 1) + 1 = omega (arith, here) in
     let hi : (l .i - 1) < a .count = omega (arith, here, l .inv .0) in
@@ -68,7 +68,7 @@ loop-again c =
     let a = start .args in
     let l = c .before .before .before .before .before .before .before .loop in
     let o = c .before .before .before .replace-record in
-    let done = c .before .before .before .before .before .before .before .before .before .before .before .before .blocks-down in
+    let done = c .before .before .before .before .before .before .before .before .before .before .before .before .bulk-down in
     let here = c .before .before .before .before .before .before .loop-test .taken in
     let back : l .i ≡ (l .i - 1) + 1 = omega (arith, here) in
     let hi : (l .i - 1) < a .count = omega (arith, here, l .inv .0) in (
@@ -79,14 +79,14 @@ loop-again c =
     )
 
 same-length : tie.Need-same-length Inv-loop μ-loop
-same-length c = c .before .loop .inv .1 ∙ c .before .before .before .before .before .before .blocks-down .kept .0
+same-length c = c .before .loop .inv .1 ∙ c .before .before .before .before .before .before .bulk-down .kept .0
 
 returns : tie.Need-returns Inv-loop μ-loop
 returns c =
     let start = c .before .before .before .before .before .before .before .before .before .before .before .before .before .before .before in
     let a = start .args in
     let l = c .before .loop in
-    let done = c .before .before .before .before .before .before .blocks-down in
+    let done = c .before .before .before .before .before .before .bulk-down in
     let end : l .i ≡ 0 = omega arith in
     λ j. down-end (j .source) (j .destination) (j .sourceFormed) (j .destinationFormed) (a .source-size) (a .destination-size) (j .sourceSize) (j .destinationSize) (a .count) (a .buf .now) (a .background .now) (start .pre .4) (l .buf) (l .total) (rw end at (l .inv .3 j (a .buf .now) (done .kept .0) (done .ensures .1 j)))
 
@@ -97,7 +97,7 @@ replace-down-spec =
     Inv-loop
     μ-loop
     (λ c. omega arith)
-    blocks-down-requires
+    bulk-down-requires
     (λ c. omega arith)
     loop-holds
     (λ c. omega arith)

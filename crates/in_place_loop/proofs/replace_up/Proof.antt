@@ -22,14 +22,14 @@ Inv-loop buf₀ background c s d plan n ws wd words staging₀ total₀ i₀ buf
 abbrev μ-loop : tie.MeasureT-loop
 μ-loop buf₀ background c s d plan n ws wd words staging₀ total₀ i₀ buf staging total i = c - i
 
-blocks-up-requires : tie.Need-blocks-up-requires Inv-loop μ-loop
-blocks-up-requires c κs =
+bulk-up-requires : tie.Need-bulk-up-requires Inv-loop μ-loop
+bulk-up-requires c κs =
     let p = c .before .before .before .before .before .before .before .before .pre in
     (p .0, p .1, p .2, omega arith, p .3, p .4)
 
 loop-holds : tie.Need-loop-holds Inv-loop μ-loop
 loop-holds c =
-    let o = c .before .before .before .blocks-up in
+    let o = c .before .before .before .bulk-up in
     (o .ensures .0, refl, o .kept .1 .1 .0, λ j first same up. up)
 
 replace-record-requires : tie.Need-replace-record-requires Inv-loop μ-loop
@@ -37,7 +37,7 @@ replace-record-requires c κs =
     let start = c .before .before .before .before .before .before .before .before .before .before .before .before .before .before .before .before in
     let a = start .args in
     let l = c .before .before .before .loop in
-    let o = c .before .before .before .before .before .before .before .blocks-up in
+    let o = c .before .before .before .before .before .before .before .bulk-up in
     let same = o .kept .0 in
     let hi : (l .i) < a .count = omega arith in (
       start .pre .0,
@@ -54,7 +54,7 @@ counted c =
     let a = start .args in
     let l = c .before .before .before .before .before .before .before .loop in
     let o = c .before .before .before .replace-record in
-    let done = c .before .before .before .before .before .before .before .before .before .before .before .blocks-up in
+    let done = c .before .before .before .before .before .before .before .before .before .before .before .bulk-up in
     let here = c .before .before .before .before .before .before .loop-test .taken in
     let hi : (l .i) < a .count = omega (arith, here, l .inv .0) in
     let j = start .pre .0 in
@@ -67,7 +67,7 @@ loop-again c =
     let a = start .args in
     let l = c .before .before .before .before .before .before .before .loop in
     let o = c .before .before .before .replace-record in
-    let done = c .before .before .before .before .before .before .before .before .before .before .before .blocks-up in
+    let done = c .before .before .before .before .before .before .before .before .before .before .before .bulk-up in
     let here = c .before .before .before .before .before .before .loop-test .taken in
     let hi : (l .i) < a .count = omega (arith, here, l .inv .0) in (
       omega (arith, hi),
@@ -77,14 +77,14 @@ loop-again c =
     )
 
 same-length : tie.Need-same-length Inv-loop μ-loop
-same-length c = c .before .loop .inv .1 ∙ c .before .before .before .before .before .blocks-up .kept .0
+same-length c = c .before .loop .inv .1 ∙ c .before .before .before .before .before .bulk-up .kept .0
 
 returns : tie.Need-returns Inv-loop μ-loop
 returns c =
     let start = c .before .before .before .before .before .before .before .before .before .before .before .before .before .before in
     let a = start .args in
     let l = c .before .loop in
-    let done = c .before .before .before .before .before .blocks-up in
+    let done = c .before .before .before .before .before .bulk-up in
     let end : l .i ≡ a .count = omega arith in
     λ j. rw end at (l .inv .3 j (a .buf .now) (done .kept .0) (done .ensures .1 j))
 
@@ -95,7 +95,7 @@ replace-up-spec =
     Inv-loop
     μ-loop
     (λ c. omega arith)
-    blocks-up-requires
+    bulk-up-requires
     loop-holds
     (λ c. omega arith)
     replace-record-requires

@@ -1,0 +1,4 @@
+pub mod Digits
+pub mod Leaf
+pub mod Pieces
+pub mod Tests
