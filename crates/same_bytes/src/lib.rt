@@ -85,6 +85,9 @@ pub fn same_bytes(
     ensures { λ r. ⌜ (1 ≤ r → Stays (now («source_half» .entry)) «source_type» (now («destination_half» .entry)) «destination_type» r) × (r < 4294967296) ⌝ }
 {
     let size = filled_bytes(source_half, source_type);
+    if size == 0 {
+        return 0;
+    }
     if filled_bytes(destination_half, destination_type) == size {
         if is_same_word(
             source_half,
@@ -184,4 +187,19 @@ pub fn run_of(
         source_half,
         destination_half,
     )
+}
+
+// Whether the leaf of any entry stays as it is. Where none does, a search for runs, block by block, is time lost.
+pub fn has_run(plan: &[u32], entries: usize, source_half: &[u32], destination_half: &[u32]) -> bool
+    requires { ⌜ (2 * entries ≤ length (now plan)) × (entries ≤ 4096) ⌝ }
+{
+    let mut i: usize = 0;
+    while i < entries {
+        let e = entry(plan, i);
+        if 0 < same_bytes(source_half, e.source, destination_half, e.destination) {
+            return true;
+        }
+        i += 1;
+    }
+    false
 }
