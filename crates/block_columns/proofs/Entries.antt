@@ -1,30 +1,28 @@
--- Entries that have a column, one after the other. Assumes nothing.
-use mathlib.Core.Path.{_≡_, refl, sym, _∙_}
-use mathlib.Core.Logic.{⊎-elim}
+-- What the column of an entry asks for, from a plan that is ready. Assumes nothing.
+use mathlib.Core.Path.{_≡_, refl, sym, subst}
 use mathlib.Core.List.{List}
-use Prim.Native.Nat.{ℕ, _+_, _≤_, _<_}
-use native.Mathlib.Nat.{eq-or-lt-of-le, le-of-suc-le-suc}
-use native.Mathlib.Numerals.{add-one}
-use native.Mathlib.Omega.{arith}
-use lib.ListN.{getD}
-use Rattle.entry_code.specs.Code.{routeIn}
-use Rattle.plans.specs.PlanWords.{wordsPlace, Pair}
-use Rattle.blocks.specs.Blocks.{eachPair}
-use Rattle.blocks.proofs.Leaves.{numbers-pairs}
-use Rattle.real_columns.proofs.Over.{reals-pairs}
-use Rattle.block_columns.specs.Plain.{AllPlain}
+use Prim.Native.Nat.{ℕ, _<_}
+use Rattle.plans.specs.declared.PlanEntry.{PlanEntry}
+use Rattle.plans.specs.PlanWords.{sourceType, destinationType, Pair, Ready}
+use Rattle.plans.specs.PlanEntries.{wordsAt, EntryReady}
+use Rattle.plans.proofs.Entries.{entry-ready}
+use Rattle.symbol_slots.specs.Tables.{TablesKept, HasColumn}
+use Rattle.blocks.proofs.Over.{entry-pair, ByTexts}
 
-pub plain-turn : (words : List ℕ) (i : ℕ) {x r : ℕ} → AllPlain words i → x ≡ getD words (wordsPlace i) 0 → r ≡ routeIn x → r < 4 → AllPlain words (i + 1)
-plain-turn words i below e q h j l =
-    ⊎-elim (λ (z : j ≡ i). rw (z, ← e, ← q) h) (λ (z : j < i). below j z) (eq-or-lt-of-le (le-of-suc-le-suc (rw add-one at l)))
+-- entry i with the plan's own texts, by which the tables are right
+pub entry-by : {s d : ℕ} {plan : List ℕ} {n : ℕ} {ws wd words : List ℕ} (p : Ready s d plan n ws wd words) (i : ℕ) → i < n → {e : PlanEntry} → e ≡ wordsAt plan i
+    → (tables : List ℕ) → TablesKept tables ws (p .sourceText) wd (p .destinationText)
+    → (q : EntryReady s d e i ws wd words) × TablesKept tables ws (q .pair .sourceText) wd (q .pair .destinationText)
+unfolding entry-pair
+entry-by {s} {d} {plan} {n} {ws} {wd} {words} p i h is tables kept =
+    let ready = entry-ready s d plan n ws wd words p i h (wordsAt plan i) refl in
+    subst (λ (x : PlanEntry). (q : EntryReady s d x i ws wd words) × TablesKept tables ws (q .pair .sourceText) wd (q .pair .destinationText)) (sym is)
+    (record { pair = entry-pair p i h; read = ready .read; write = ready .write; few = ready .few; room = ready .room }, kept)
 
-pub plain-end : (words : List ℕ) (i n : ℕ) → n ≤ i → AllPlain words i → AllPlain words n
-plain-end words i n h below j l = below j (omega arith)
+pub column-by : (tables words : List ℕ) (k : ℕ) (plan : List ℕ) (i : ℕ) {e : PlanEntry} → e ≡ wordsAt plan i
+    → HasColumn tables words k (sourceType plan i) (destinationType plan i) → HasColumn tables words k (e .source) (e .destination)
+column-by tables words k plan i is has = subst (λ (x : PlanEntry). HasColumn tables words k (x .source) (x .destination)) (sym is) has
 
--- the column of an entry is the same by whatever texts its types have their symbols from
-pub pairs-same : {f g : ℕ} {ws wd words : List ℕ} {place : ℕ} (p q : Pair f g ws wd words place) → routeIn (getD words place 0) < 4
-    → (b a s d : ℕ) (src : List ℕ) (k : ℕ) (dst : List ℕ) → eachPair p b a s d src k dst ≡ eachPair q b a s d src k dst
-pairs-same {words = words} {place = place} p q low b a s d src k dst =
-    ⊎-elim (λ (z : routeIn (getD words place 0) ≡ 3). sym (reals-pairs p z b a s d src k dst) ∙ reals-pairs q z b a s d src k dst)
-    (λ (z : routeIn (getD words place 0) < 3). sym (numbers-pairs p z refl refl b a s d src k dst) ∙ numbers-pairs q z refl refl b a s d src k dst)
-    (eq-or-lt-of-le (le-of-suc-le-suc low))
+pub kept-by : {s d : ℕ} {plan : List ℕ} {n : ℕ} {ws wd words : List ℕ} {f g k : ℕ} (p : Ready s d plan n ws wd words) (q : Pair f g ws wd words k) → ByTexts p q
+    → (tables : List ℕ) → TablesKept tables ws (p .sourceText) wd (p .destinationText) → TablesKept tables ws (q .sourceText) wd (q .destinationText)
+kept-by p q texts tables kept = rw (texts .0, texts .1) kept

@@ -1,21 +1,15 @@
 // A block of records, leaf by leaf: an entry of the plan is done in all of them before the next.
 ghost use mathlib.Core.Path.{_≡_};
-ghost use mathlib.Core.Bool.{true};
 ghost use mathlib.Core.List.{List};
 ghost use Prim.Native.Nat.{ℕ, _*_, _≤_};
 ghost use lib.ListN.{length};
 ghost use Rattle.plans.specs.PlanWords.{Ready, entriesOf};
 ghost use Rattle.column_slots.specs.Slots.{Kept};
 ghost use Rattle.blocks.specs.Blocks.{eachOf, raisedOver};
-ghost use Rattle.block_columns.specs.Plain.{AllPlain};
-use entry_code::SPAN_LE;
-use entry_code::route_in;
+ghost use Rattle.symbol_slots.specs.Tables.{TablesKept, Columned};
 use entry_columns::entry_column;
 use entry_columns::entry_raised;
 use plan_words::entry;
-use plans::ENTRY_WORDS;
-use plans::NAMES;
-use table::read::word;
 
 // Words of the slots of a call.
 pub const SLOTS_WORDS: usize = 1024;
@@ -34,9 +28,10 @@ pub fn block(
     slots: &mut [u64],
     narrow: &mut [u32],
     wide: &mut [u64],
+    tables: &[u64],
 ) -> u64
-    requires { ⌜ ((words : List ℕ) × Ready «source_size» «destination_size» (now plan) entries (now «source_half») (now «destination_half») words × AllPlain words entries) × Kept (now slots) (now «source_half») (now «destination_half») × (1024 ≤ length (now slots)) × (count ≤ 65536) × (count ≤ length (now narrow)) × (count ≤ length (now wide)) × (count * «source_size» ≤ length (now src)) × (count * «destination_size» ≤ length (now dst)) ⌝ }
-    ensures { λ r. ⌜ ((words : List ℕ) (p : Ready «source_size» «destination_size» (now (plan .entry)) entries (now («source_half» .entry)) (now («destination_half» .entry)) words) → AllPlain words entries → (now (dst .exit) ≡ eachOf (entriesOf p) «source_size» «destination_size» (now (src .entry)) count (now (dst .entry))) × (r ≡ raisedOver (entriesOf p) «source_size» (now (src .entry)) count)) × Kept (now (slots .exit)) (now («source_half» .entry)) (now («destination_half» .entry)) ⌝ }
+    requires { ⌜ ((words : List ℕ) × (p : Ready «source_size» «destination_size» (now plan) entries (now «source_half») (now «destination_half») words) × Columned (now tables) (now plan) entries words × TablesKept (now tables) (now «source_half») (p .sourceText) (now «destination_half») (p .destinationText)) × (2176 ≤ length (now tables)) × Kept (now slots) (now «source_half») (now «destination_half») × (1024 ≤ length (now slots)) × (count ≤ 65536) × (count ≤ length (now narrow)) × (count ≤ length (now wide)) × (count * «source_size» ≤ length (now src)) × (count * «destination_size» ≤ length (now dst)) ⌝ }
+    ensures { λ r. ⌜ ((words : List ℕ) (p : Ready «source_size» «destination_size» (now (plan .entry)) entries (now («source_half» .entry)) (now («destination_half» .entry)) words) → Columned (now (tables .entry)) (now (plan .entry)) entries words → TablesKept (now (tables .entry)) (now («source_half» .entry)) (p .sourceText) (now («destination_half» .entry)) (p .destinationText) → (now (dst .exit) ≡ eachOf (entriesOf p) «source_size» «destination_size» (now (src .entry)) count (now (dst .entry))) × (r ≡ raisedOver (entriesOf p) «source_size» (now (src .entry)) count)) × Kept (now (slots .exit)) (now («source_half» .entry)) (now («destination_half» .entry)) ⌝ }
 {
     let mut raised: u64 = 0;
     let mut i: usize = 0;
@@ -54,6 +49,7 @@ pub fn block(
             slots,
             narrow,
             wide,
+            tables,
         );
         i += 1;
     }
@@ -72,42 +68,28 @@ pub fn block_raised(
     slots: &mut [u64],
     narrow: &mut [u32],
     wide: &mut [u64],
+    tables: &[u64],
 ) -> u64
-    requires { ⌜ ((d : ℕ) × (words : List ℕ) × Ready «source_size» d (now plan) entries (now «source_half») (now «destination_half») words × AllPlain words entries) × Kept (now slots) (now «source_half») (now «destination_half») × (1024 ≤ length (now slots)) × (count ≤ 65536) × (count ≤ length (now narrow)) × (count ≤ length (now wide)) × (count * «source_size» ≤ length (now src)) ⌝ }
-    ensures { λ r. ⌜ ((d : ℕ) (words : List ℕ) (p : Ready «source_size» d (now (plan .entry)) entries (now («source_half» .entry)) (now («destination_half» .entry)) words) → AllPlain words entries → r ≡ raisedOver (entriesOf p) «source_size» (now (src .entry)) count) × Kept (now (slots .exit)) (now («source_half» .entry)) (now («destination_half» .entry)) ⌝ }
+    requires { ⌜ ((d : ℕ) × (words : List ℕ) × (p : Ready «source_size» d (now plan) entries (now «source_half») (now «destination_half») words) × Columned (now tables) (now plan) entries words × TablesKept (now tables) (now «source_half») (p .sourceText) (now «destination_half») (p .destinationText)) × (2176 ≤ length (now tables)) × Kept (now slots) (now «source_half») (now «destination_half») × (1024 ≤ length (now slots)) × (count ≤ 65536) × (count ≤ length (now narrow)) × (count ≤ length (now wide)) × (count * «source_size» ≤ length (now src)) ⌝ }
+    ensures { λ r. ⌜ ((d : ℕ) (words : List ℕ) (p : Ready «source_size» d (now (plan .entry)) entries (now («source_half» .entry)) (now («destination_half» .entry)) words) → Columned (now (tables .entry)) (now (plan .entry)) entries words → TablesKept (now (tables .entry)) (now («source_half» .entry)) (p .sourceText) (now («destination_half» .entry)) (p .destinationText) → r ≡ raisedOver (entriesOf p) «source_size» (now (src .entry)) count) × Kept (now (slots .exit)) (now («source_half» .entry)) (now («destination_half» .entry)) ⌝ }
 {
     let mut raised: u64 = 0;
     let mut i: usize = 0;
     while i < entries {
-        let e = entry(plan, i);
+        let leaf = entry(plan, i);
         raised += entry_raised(
             src,
             count,
             source_size,
-            e,
+            leaf,
             source_half,
             destination_half,
             slots,
             narrow,
             wide,
+            tables,
         );
         i += 1;
     }
     raised
-}
-
-// Whether each of the entries has a column: none leads into an enum.
-pub fn all_plain(words: &[u32], entries: usize) -> bool
-    requires { ⌜ entries ≤ 4096 ⌝ }
-    ensures { λ r. ⌜ (r ≡ true → AllPlain (now (words .entry)) entries) ⌝ }
-{
-    let mut i: usize = 0;
-    while i < entries {
-        let route = route_in(word(words, NAMES + ENTRY_WORDS * i));
-        if SPAN_LE <= route {
-            return false;
-        }
-        i += 1;
-    }
-    true
 }

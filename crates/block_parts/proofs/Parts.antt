@@ -14,7 +14,7 @@ use Rattle.plans.proofs.Entries.{sound-at}
 use Rattle.loops.proofs.Lists.{row-within}
 use Rattle.blocks.specs.Blocks.{eachRecord, eachOf, sumTo, raisedOver}
 use Rattle.blocks.proofs.Columns.{by-records, record-of, record-shift, record-room, Keeps, each-length, each-at, written-length, columns-written, columns-behind, columns-length, columns-raised, sum-same}
-use Rattle.block_columns.specs.Plain.{AllPlain}
+use Rattle.symbol_slots.specs.Tables.{TablesKept, Columned}
 use Rattle.block_parts.specs.Parts.{InParts}
 use Rattle.block_parts.proofs.Shifts.{moved, movedAll, shifted-written, shifted-raised}
 
@@ -241,18 +241,25 @@ module _ {m a b e s d : ℕ} {plan : List ℕ} {n : ℕ} {ws wd : List ℕ} (par
         names = λ i h. p .names i (omega arith);
       }
 
-  pub part-plain : AllPlain words n → AllPlain words e
-  part-plain f i h = f i (omega (arith, part-few parts))
+  module _ (tables : List ℕ) where
+    pub part-columned : Columned tables plan n words → Columned tables plan e words
+    part-columned f i h = f i (omega (arith, part-few parts))
 
-  pub grouped-each : AllPlain words n → (src : List ℕ) (k r : ℕ) → k * s ≤ length src → (dst out : List ℕ) → k * d ≤ length dst
-      → ((v : List ℕ) (t : Ready a b plan e ws wd v) → AllPlain v e → (out ≡ eachOf (entriesOf t) a b src (k * m) dst) × (r ≡ raisedOver (entriesOf t) a src (k * m)))
-      → (out ≡ eachOf (entriesOf p) s d src k dst) × (r ≡ raisedOver (entriesOf p) s src k)
-  unfolding part-ready
-  grouped-each f src k r reads dst out room call =
-      let made = call words part-ready (part-plain f) in (
-        made .0 ∙ sym (parts-each parts (p .sourceText) (p .destinationText) part-sound (p .sound) src k reads dst room),
-        made .1 ∙ sym (parts-raised parts (p .sourceText) (p .destinationText) part-sound src k reads),
-      )
+    pub part-kept : TablesKept tables ws (p .sourceText) wd (p .destinationText) → TablesKept tables ws (part-ready .sourceText) wd (part-ready .destinationText)
+    unfolding part-ready
+    part-kept kept = kept
+
+    pub grouped-each : Columned tables plan n words → TablesKept tables ws (p .sourceText) wd (p .destinationText)
+        → (src : List ℕ) (k r : ℕ) → k * s ≤ length src → (dst out : List ℕ) → k * d ≤ length dst
+        → ((v : List ℕ) (t : Ready a b plan e ws wd v) → Columned tables plan e v → TablesKept tables ws (t .sourceText) wd (t .destinationText)
+        → (out ≡ eachOf (entriesOf t) a b src (k * m) dst) × (r ≡ raisedOver (entriesOf t) a src (k * m)))
+        → (out ≡ eachOf (entriesOf p) s d src k dst) × (r ≡ raisedOver (entriesOf p) s src k)
+    unfolding part-ready
+    grouped-each f kept src k r reads dst out room call =
+        let made = call words part-ready (part-columned f) kept in (
+          made .0 ∙ sym (parts-each parts (p .sourceText) (p .destinationText) part-sound (p .sound) src k reads dst room),
+          made .1 ∙ sym (parts-raised parts (p .sourceText) (p .destinationText) part-sound src k reads),
+        )
 
 -- ---- products
 

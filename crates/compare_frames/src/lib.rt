@@ -143,7 +143,7 @@ fn compare_large(
     let first_type = x.first;
     let second_type = x.second;
     let mut plan = [0u32; 8192];
-    let mut words = [0u32; 24576];
+    let mut words = [0u32; 20480];
     let entries = make_plan(
         first_sheet,
         second_sheet,

@@ -4,9 +4,8 @@ ghost use Prim.Native.Nat.{_*_, _≤_};
 ghost use lib.ListN.{length};
 ghost use Rattle.plans.specs.PlanWords.{Job};
 ghost use Rattle.loops.specs.Steps.{Done};
-ghost use Rattle.block_columns.specs.Plain.{AllPlain};
+ghost use Rattle.symbol_slots.specs.Tables.{Tabled};
 use block_columns::SLOTS_WORDS;
-use block_columns::all_plain;
 use block_parts::grouped_block;
 use block_sizes::BLOCK;
 use block_sizes::FEWEST;
@@ -14,6 +13,8 @@ use block_sizes::Progress;
 use block_sizes::copied_at_once;
 use block_sizes::least;
 use plan_parts::parts_of;
+use symbol_slots::TABLES_WORDS;
+use symbol_slots::put_tables;
 
 // From so many leaves on a record may fall into parts that are worth a block.
 const MANY: usize = 32;
@@ -46,8 +47,9 @@ fn copy_plain(
     source_half: &[u32],
     destination_half: &[u32],
     words: &[u32],
+    tables: &[u64],
 ) -> Progress
-    requires { ⌜ Job «source_size» «destination_size» (now plan) entries (now «source_half») (now «destination_half») (now words) × AllPlain (now words) entries × (count ≤ 65536) × (count * «source_size» ≤ length (now src)) × (count * «destination_size» ≤ length (now dst)) ⌝ }
+    requires { ⌜ Job «source_size» «destination_size» (now plan) entries (now «source_half») (now «destination_half») (now words) × Tabled (now tables) (now plan) entries (now «source_half») (now «destination_half») (now words) × (2176 ≤ length (now tables)) × (count ≤ 65536) × (count * «source_size» ≤ length (now src)) × (count * «destination_size» ≤ length (now dst)) ⌝ }
     ensures { λ r. ⌜ (r .records ≤ count) × ((j : Job «source_size» «destination_size» (now (plan .entry)) entries (now («source_half» .entry)) (now («destination_half» .entry)) (now (words .entry))) → Done (j .source) (j .destination) «destination_size» count (now (src .entry)) (now (dst .entry)) (r .records) (now (dst .exit)) (r .raised)) ⌝ }
 {
     let parts = parts_of(
@@ -81,6 +83,7 @@ fn copy_plain(
             &mut slots,
             &mut narrow,
             &mut wide,
+            tables,
         );
         i += k;
     }
@@ -109,7 +112,15 @@ pub fn copy_blocks(
             return NONE;
         }
     }
-    if all_plain(words, entries) {
+    let mut tables = [0u64; TABLES_WORDS];
+    if put_tables(
+        &mut tables,
+        plan,
+        entries,
+        source_half,
+        destination_half,
+        words,
+    ) {
         return copy_plain(
             src,
             dst,
@@ -121,6 +132,7 @@ pub fn copy_blocks(
             source_half,
             destination_half,
             words,
+            &tables,
         );
     }
     NONE

@@ -4,14 +4,11 @@ use mathlib.Core.Bool.{Bool, true, false, false≢true}
 use mathlib.Core.Logic.{⊎-elim}
 use mathlib.Core.List.{List}
 use Prim.Native.Nat.{ℕ, _+_, _*_, _≤_, _<_}
-use native.Mathlib.Decide.{decLe}
-use native.Mathlib.Nat.{lt-of-not-le, eq-or-lt-of-le, le-of-suc-le-suc}
-use native.Mathlib.Omega.{arith}
-use borrow.Author.Tests.{le-ltb}
+use native.Mathlib.Nat.{eq-or-lt-of-le, le-of-suc-le-suc}
 use lib.ListN.{length, getD}
 use Rattle.layout.specs.declared.Layout.{Layout}
 use Rattle.layout.specs.Layout.{Valid}
-use Rattle.table.specs.Table.{typeWord, layoutAt}
+use Rattle.table.specs.Table.{layoutAt}
 use Rattle.entry_code.specs.Code.{routeIn}
 use Rattle.plans.specs.PlanWords.{oneReal, Pair}
 use Rattle.column_words.specs.declared.Words.{Words}
@@ -25,15 +22,6 @@ use Rattle.real_columns.specs.Reals.{eachReal, raisedReals}
 use Rattle.real_columns.proofs.Over.{reals-pairs, raised-reals-pairs}
 
 -- ---- the words of two types that have valid layouts
-
--- a type that has a valid layout is one of the table's
-pub type-few : (w : List ℕ) (k : ℕ) → Valid (layoutAt w k) → k < 64
-unfolding layoutAt typeWord
-type-few w k v =
-    elim (decLe 64 k) [
-      | yes h ↦ absurd (omega (arith, rw (le-ltb k 64 h) at (v .some)))
-      | no f ↦ lt-of-not-le f
-    ]
 
 module _ (l m : Layout) (v : Valid l) (u : Valid m) {w : Words} (hw : w ≡ wordsOf l m) where
   -- they fit

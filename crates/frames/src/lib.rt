@@ -79,7 +79,7 @@ fn convert_large(
     let source_type = x.source;
     let destination_type = x.destination;
     let mut plan = [0u32; 8192];
-    let mut words = [0u32; 24576];
+    let mut words = [0u32; 20480];
     let entries = make_plan(
         source_sheet,
         destination_sheet,

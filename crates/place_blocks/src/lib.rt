@@ -3,10 +3,9 @@ ghost use Prim.Native.Nat.{_-_, _*_, _/_, _≤_};
 ghost use lib.ListN.{length};
 ghost use Rattle.plans.specs.PlanWords.{Job};
 ghost use Rattle.loops.specs.Steps.{Up, Down};
-ghost use Rattle.block_columns.specs.Plain.{AllPlain};
+ghost use Rattle.symbol_slots.specs.Tables.{Tabled};
 ghost use Rattle.block_parts.specs.Parts.{InParts};
 use block_columns::SLOTS_WORDS;
-use block_columns::all_plain;
 use block_sizes::BLOCK;
 use block_sizes::FEWEST;
 use block_sizes::Progress;
@@ -14,6 +13,8 @@ use block_sizes::least;
 use block_sizes::staged_at_once;
 use plan_parts::parts_of;
 use staged_block::replace_block;
+use symbol_slots::TABLES_WORDS;
+use symbol_slots::put_tables;
 
 // So many records at once are enough, even where each of them is one part.
 const FEWEST_STAGED: usize = 4;
@@ -37,8 +38,9 @@ fn plain_up(
     source_half: &[u32],
     destination_half: &[u32],
     words: &[u32],
+    tables: &[u64],
 ) -> Progress
-    requires { ⌜ Job «source_size» «destination_size» (now plan) entries (now «source_half») (now «destination_half») (now words) × AllPlain (now words) entries × InParts parts («source_size» / parts) («destination_size» / parts) (entries / parts) «source_size» «destination_size» (now plan) entries (now «source_half») (now «destination_half») × (count ≤ 65536) × («destination_size» ≤ «source_size») × (4096 ≤ length (now staging)) × (count * «source_size» ≤ length (now buf)) × (count * «destination_size» ≤ length (now background)) ⌝ }
+    requires { ⌜ Job «source_size» «destination_size» (now plan) entries (now «source_half») (now «destination_half») (now words) × Tabled (now tables) (now plan) entries (now «source_half») (now «destination_half») (now words) × (2176 ≤ length (now tables)) × InParts parts («source_size» / parts) («destination_size» / parts) (entries / parts) «source_size» «destination_size» (now plan) entries (now «source_half») (now «destination_half») × (count ≤ 65536) × («destination_size» ≤ «source_size») × (4096 ≤ length (now staging)) × (count * «source_size» ≤ length (now buf)) × (count * «destination_size» ≤ length (now background)) ⌝ }
     ensures { λ r. ⌜ (r .records ≤ count) × ((j : Job «source_size» «destination_size» (now (plan .entry)) entries (now («source_half» .entry)) (now («destination_half» .entry)) (now (words .entry))) → Up (j .source) (j .destination) «source_size» «destination_size» count (now (buf .entry)) (now (background .entry)) (r .records) (now (buf .exit)) (r .raised)) ⌝ }
 {
     let mut slots = [0u64; SLOTS_WORDS];
@@ -65,6 +67,7 @@ fn plain_up(
             &mut slots,
             &mut narrow,
             &mut wide,
+            tables,
         );
         i += k;
     }
@@ -85,8 +88,9 @@ fn plain_down(
     source_half: &[u32],
     destination_half: &[u32],
     words: &[u32],
+    tables: &[u64],
 ) -> Progress
-    requires { ⌜ Job «source_size» «destination_size» (now plan) entries (now «source_half») (now «destination_half») (now words) × AllPlain (now words) entries × InParts parts («source_size» / parts) («destination_size» / parts) (entries / parts) «source_size» «destination_size» (now plan) entries (now «source_half») (now «destination_half») × (count ≤ 65536) × («source_size» ≤ «destination_size») × (4096 ≤ length (now staging)) × (count * «destination_size» ≤ length (now buf)) × (count * «destination_size» ≤ length (now background)) ⌝ }
+    requires { ⌜ Job «source_size» «destination_size» (now plan) entries (now «source_half») (now «destination_half») (now words) × Tabled (now tables) (now plan) entries (now «source_half») (now «destination_half») (now words) × (2176 ≤ length (now tables)) × InParts parts («source_size» / parts) («destination_size» / parts) (entries / parts) «source_size» «destination_size» (now plan) entries (now «source_half») (now «destination_half») × (count ≤ 65536) × («source_size» ≤ «destination_size») × (4096 ≤ length (now staging)) × (count * «destination_size» ≤ length (now buf)) × (count * «destination_size» ≤ length (now background)) ⌝ }
     ensures { λ r. ⌜ (r .records ≤ count) × ((j : Job «source_size» «destination_size» (now (plan .entry)) entries (now («source_half» .entry)) (now («destination_half» .entry)) (now (words .entry))) → Down (j .source) (j .destination) «source_size» «destination_size» count (now (buf .entry)) (now (background .entry)) (count - r .records) (now (buf .exit)) (r .raised)) ⌝ }
 {
     let mut slots = [0u64; SLOTS_WORDS];
@@ -114,6 +118,7 @@ fn plain_down(
             &mut slots,
             &mut narrow,
             &mut wide,
+            tables,
         );
     }
     Progress {
@@ -148,20 +153,18 @@ fn parts_in_blocks(
     words: &[u32],
 ) -> usize
     requires { ⌜ Job «source_size» «destination_size» (now plan) entries (now «source_half») (now «destination_half») (now words) × (count ≤ 65536) ⌝ }
-    ensures { λ r. ⌜ (1 ≤ r → AllPlain (now (words .entry)) entries × InParts r («source_size» / r) («destination_size» / r) (entries / r) «source_size» «destination_size» (now (plan .entry)) entries (now («source_half» .entry)) (now («destination_half» .entry))) ⌝ }
+    ensures { λ r. ⌜ (1 ≤ r → InParts r («source_size» / r) («destination_size» / r) (entries / r) «source_size» «destination_size» (now (plan .entry)) entries (now («source_half» .entry)) (now («destination_half» .entry))) ⌝ }
 {
-    if all_plain(words, entries) {
-        let parts = parts_of(
-            plan,
-            entries,
-            source_size,
-            destination_size,
-            source_half,
-            destination_half,
-        );
-        if has_blocks(count, source_size, parts) {
-            return parts;
-        }
+    let parts = parts_of(
+        plan,
+        entries,
+        source_size,
+        destination_size,
+        source_half,
+        destination_half,
+    );
+    if has_blocks(count, source_size, parts) {
+        return parts;
     }
     0
 }
@@ -194,20 +197,31 @@ pub fn blocks_up(
         words,
     );
     if 0 < parts {
-        return plain_up(
-            buf,
-            background,
-            staging,
-            count,
-            source_size,
-            destination_size,
+        let mut tables = [0u64; TABLES_WORDS];
+        if put_tables(
+            &mut tables,
             plan,
             entries,
-            parts,
             source_half,
             destination_half,
             words,
-        );
+        ) {
+            return plain_up(
+                buf,
+                background,
+                staging,
+                count,
+                source_size,
+                destination_size,
+                plan,
+                entries,
+                parts,
+                source_half,
+                destination_half,
+                words,
+                &tables,
+            );
+        }
     }
     NONE
 }
@@ -240,20 +254,31 @@ pub fn blocks_down(
         words,
     );
     if 0 < parts {
-        return plain_down(
-            buf,
-            background,
-            staging,
-            count,
-            source_size,
-            destination_size,
+        let mut tables = [0u64; TABLES_WORDS];
+        if put_tables(
+            &mut tables,
             plan,
             entries,
-            parts,
             source_half,
             destination_half,
             words,
-        );
+        ) {
+            return plain_down(
+                buf,
+                background,
+                staging,
+                count,
+                source_size,
+                destination_size,
+                plan,
+                entries,
+                parts,
+                source_half,
+                destination_half,
+                words,
+                &tables,
+            );
+        }
     }
     NONE
 }

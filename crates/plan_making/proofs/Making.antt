@@ -23,7 +23,7 @@ use Rattle.plan_making.specs.Made.{Room, Made}
 pub small-room : (ds wd : List ℕ) (k : ℕ) → size (typeAt wd ds k) ≤ 128 → Room ds wd k 256 2048
 small-room ds wd k h = record { for-entries = omega arith; for-words = omega arith; most = omega arith }
 
-pub large-room : {ss ws : List ℕ} {i : ℕ} (ds wd : List ℕ) (k : ℕ) → Both ss ws i ds wd k → Room ds wd k 8192 24576
+pub large-room : {ss ws : List ℕ} {i : ℕ} (ds wd : List ℕ) (k : ℕ) → Both ss ws i ds wd k → Room ds wd k 8192 20480
 large-room ds wd k both =
     let most : size (typeAt wd ds k) ≤ 4096 = size-most (typeAt wd ds k) (both .destination) in
     record { for-entries = omega arith; for-words = omega arith; most = omega arith }

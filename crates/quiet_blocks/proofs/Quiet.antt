@@ -18,7 +18,7 @@ use Rattle.loops.proofs.ScanTurns.{stop-start}
 use Rattle.blocks.specs.Blocks.{sumTo, raisedOver}
 use Rattle.blocks.proofs.Columns.{record-shift, columns-raised}
 use Rattle.blocks.proofs.BlockTurns.{job-ready}
-use Rattle.block_columns.specs.Plain.{AllPlain}
+use Rattle.symbol_slots.specs.Tables.{TablesKept, Columned, Tabled}
 
 -- ---- one record
 
@@ -75,13 +75,13 @@ module _ {s d : ℕ} {plan : List ℕ} {n : ℕ} {ws wd words : List ℕ} (j : J
   pub quiet-start : (c : ℕ) (src : List ℕ) → stopBy (planOf (j .source) (j .destination)) s src 0 c ≡ stopBy (planOf (j .source) (j .destination)) s src 0 (c - 0)
   quiet-start c src = stop-start (planOf (j .source) (j .destination)) s src c
 
-  pub quiet-turn : AllPlain words n → (c : ℕ) (src : List ℕ) (i k r : ℕ) → i + k ≤ c
+  pub quiet-turn : (tables : List ℕ) → Tabled tables plan n ws wd words → (c : ℕ) (src : List ℕ) (i k r : ℕ) → i + k ≤ c
       → stopBy (planOf (j .source) (j .destination)) s src 0 c ≡ stopBy (planOf (j .source) (j .destination)) s src i (c - i)
       → (let a : List ℕ = take (length src - i * s) (drop (i * s) src) in
-      ((d : ℕ) (words : List ℕ) (p : Ready s d plan n ws wd words) → AllPlain words n → r ≡ raisedOver (entriesOf p) s a k)
+      ((d : ℕ) (words : List ℕ) (p : Ready s d plan n ws wd words) → Columned tables plan n words → TablesKept tables ws (p .sourceText) wd (p .destinationText) → r ≡ raisedOver (entriesOf p) s a k)
       → r ≡ 0
       → stopBy (planOf (j .source) (j .destination)) s src 0 c ≡ stopBy (planOf (j .source) (j .destination)) s src (i + k) (c - (i + k)))
-  quiet-turn plain c src i k r h inv call none =
+  quiet-turn tables tabled c src i k r h inv call none =
       let counted : r ≡ raisedOver (planOf (j .source) (j .destination)) s (drop (i * s) src) k =
-      rw (j .entries) at (simp tail-lent at (call d words (job-ready j) plain)) in
+      rw (j .entries) at (simp tail-lent at (call d words (job-ready j) (tabled s d (job-ready j) .1) (tabled s d (job-ready j) .0))) in
       stop-block (planOf (j .source) (j .destination)) s src c i k h inv (sym counted ∙ none)

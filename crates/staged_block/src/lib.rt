@@ -7,7 +7,7 @@ ghost use Rattle.plans.specs.PlanWords.{Ready, entriesOf};
 ghost use Rattle.loops.specs.Steps.{put};
 ghost use Rattle.column_slots.specs.Slots.{Kept};
 ghost use Rattle.blocks.specs.Blocks.{eachOf, raisedOver};
-ghost use Rattle.block_columns.specs.Plain.{AllPlain};
+ghost use Rattle.symbol_slots.specs.Tables.{TablesKept, Columned};
 ghost use Rattle.block_parts.specs.Parts.{InParts};
 use block_parts::grouped_block;
 use loops::bytes::copy_bytes;
@@ -29,9 +29,10 @@ pub fn replace_block(
     slots: &mut [u64],
     narrow: &mut [u32],
     wide: &mut [u64],
+    tables: &[u64],
 ) -> u64
-    requires { ⌜ ((words : List ℕ) × Ready «source_size» «destination_size» (now plan) entries (now «source_half») (now «destination_half») words × AllPlain words entries) × InParts parts («source_size» / parts) («destination_size» / parts) (entries / parts) «source_size» «destination_size» (now plan) entries (now «source_half») (now «destination_half») × Kept (now slots) (now «source_half») (now «destination_half») × (1024 ≤ length (now slots)) × (k ≤ 256) × (256 ≤ length (now narrow)) × (256 ≤ length (now wide)) × (k * «source_size» ≤ length (now staging)) × (i * «source_size» + k * «source_size» ≤ length (now buf)) × (i * «destination_size» + k * «destination_size» ≤ length (now buf)) × (i * «destination_size» + k * «destination_size» ≤ length (now background)) ⌝ }
-    ensures { λ r. ⌜ ((words : List ℕ) (p : Ready «source_size» «destination_size» (now (plan .entry)) entries (now («source_half» .entry)) (now («destination_half» .entry)) words) → AllPlain words entries → (now (buf .exit) ≡ put (i * «destination_size») (k * «destination_size») (eachOf (entriesOf p) «source_size» «destination_size» (take (k * «source_size») (drop (i * «source_size») (now (buf .entry)))) k (take (k * «destination_size») (drop (i * «destination_size») (now (background .entry))))) (now (buf .entry))) × (r ≡ raisedOver (entriesOf p) «source_size» (take (k * «source_size») (drop (i * «source_size») (now (buf .entry)))) k)) × Kept (now (slots .exit)) (now («source_half» .entry)) (now («destination_half» .entry)) ⌝ }
+    requires { ⌜ ((words : List ℕ) × (p : Ready «source_size» «destination_size» (now plan) entries (now «source_half») (now «destination_half») words) × Columned (now tables) (now plan) entries words × TablesKept (now tables) (now «source_half») (p .sourceText) (now «destination_half») (p .destinationText)) × (2176 ≤ length (now tables)) × InParts parts («source_size» / parts) («destination_size» / parts) (entries / parts) «source_size» «destination_size» (now plan) entries (now «source_half») (now «destination_half») × Kept (now slots) (now «source_half») (now «destination_half») × (1024 ≤ length (now slots)) × (k ≤ 256) × (256 ≤ length (now narrow)) × (256 ≤ length (now wide)) × (k * «source_size» ≤ length (now staging)) × (i * «source_size» + k * «source_size» ≤ length (now buf)) × (i * «destination_size» + k * «destination_size» ≤ length (now buf)) × (i * «destination_size» + k * «destination_size» ≤ length (now background)) ⌝ }
+    ensures { λ r. ⌜ ((words : List ℕ) (p : Ready «source_size» «destination_size» (now (plan .entry)) entries (now («source_half» .entry)) (now («destination_half» .entry)) words) → Columned (now (tables .entry)) (now (plan .entry)) entries words → TablesKept (now (tables .entry)) (now («source_half» .entry)) (p .sourceText) (now («destination_half» .entry)) (p .destinationText) → (now (buf .exit) ≡ put (i * «destination_size») (k * «destination_size») (eachOf (entriesOf p) «source_size» «destination_size» (take (k * «source_size») (drop (i * «source_size») (now (buf .entry)))) k (take (k * «destination_size») (drop (i * «destination_size») (now (background .entry))))) (now (buf .entry))) × (r ≡ raisedOver (entriesOf p) «source_size» (take (k * «source_size») (drop (i * «source_size») (now (buf .entry)))) k)) × Kept (now (slots .exit)) (now («source_half» .entry)) (now («destination_half» .entry)) ⌝ }
 {
     copy_bytes(staging, &buf[i * source_size..], k * source_size);
     copy_bytes(
@@ -53,5 +54,6 @@ pub fn replace_block(
         slots,
         narrow,
         wide,
+        tables,
     )
 }

@@ -59,7 +59,7 @@ missingBy table w x = noneIn table (rawBy w x)
 
 -- the table's words are what the loops over it need: entries that fit, and bits that fit the destination
 pub record Usable (table : List ℕ) (into : ℕ) : Type 0 where
-  pub few : getD table 1 0 ≤ 1024
+  pub few : getD table 1 0 ≤ 512
   pub keys : getD table 3 0 ≤ 256
   pub out : (raw : ℕ) → outIn table into raw ≤ into
   pub none : (raw : ℕ) → noneIn table raw ≤ 1

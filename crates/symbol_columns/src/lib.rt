@@ -15,7 +15,7 @@ use wide_loads::load_64;
 use wide_stores::store_64;
 
 // Words of a table.
-pub const TABLE_WORDS: usize = 1056;
+pub const TABLE_WORDS: usize = 544;
 
 // Words of its head: how many entries its span has, the span's lowest bits, and how many keys it has.
 pub const ENTRY_COUNT: usize = 1;
@@ -47,7 +47,7 @@ fn either(key: u64, raw: u64, j: usize, at: usize) -> usize
 
 // So many keys up from the key `at`, if the key there is not above.
 fn step_up(table: &[u64], keys: usize, raw: u64, step: usize, at: usize) -> usize
-    requires { ⌜ (at + step < 256) × (1056 ≤ length (now table)) × (keys ≡ getD (now table) 3 0) ⌝ }
+    requires { ⌜ (at + step < 256) × (544 ≤ length (now table)) × (keys ≡ getD (now table) 3 0) ⌝ }
     ensures { λ r. ⌜ (r ≡ stepUp (now (table .entry)) raw step at) × (r ≤ at + step) ⌝ }
 {
     let j = at + step;
@@ -57,7 +57,7 @@ fn step_up(table: &[u64], keys: usize, raw: u64, step: usize, at: usize) -> usiz
 
 // The last key that is not above.
 pub fn find(table: &[u64], raw: u64) -> usize
-    requires { ⌜ (1056 ≤ length (now table)) × (getD (now table) 3 0 ≤ 256) ⌝ }
+    requires { ⌜ (544 ≤ length (now table)) × (getD (now table) 3 0 ≤ 256) ⌝ }
     ensures { λ r. ⌜ (r ≡ keyFor (now (table .entry)) raw) × (r < 256) ⌝ }
 {
     let keys = table[KEY_COUNT] as usize;
@@ -78,7 +78,7 @@ fn same_or(key: u64, raw: u64, same: u64, other: u64) -> u64
 
 // What bits become of which q is the last key that is not above.
 fn out_at(table: &[u64], q: usize, keys: usize, raw: u64, into: u64) -> u64
-    requires { ⌜ (q < 256) × (1056 ≤ length (now table)) × (getD (now table) 1 0 ≡ 0) × (keys ≡ getD (now table) 3 0) × (q ≡ keyFor (now table) raw) ⌝ }
+    requires { ⌜ (q < 256) × (544 ≤ length (now table)) × (getD (now table) 1 0 ≡ 0) × (keys ≡ getD (now table) 3 0) × (q ≡ keyFor (now table) raw) ⌝ }
     ensures { λ r. ⌜ r ≡ outIn (now (table .entry)) into raw ⌝ }
 {
     let out = table[OUTS + q];
@@ -88,7 +88,7 @@ fn out_at(table: &[u64], q: usize, keys: usize, raw: u64, into: u64) -> u64
 
 // 1 where such bits are no key.
 fn none_at(table: &[u64], q: usize, keys: usize, raw: u64) -> u64
-    requires { ⌜ (q < 256) × (1056 ≤ length (now table)) × (getD (now table) 1 0 ≡ 0) × (keys ≡ getD (now table) 3 0) × (q ≡ keyFor (now table) raw) ⌝ }
+    requires { ⌜ (q < 256) × (544 ≤ length (now table)) × (getD (now table) 1 0 ≡ 0) × (keys ≡ getD (now table) 3 0) × (q ≡ keyFor (now table) raw) ⌝ }
     ensures { λ r. ⌜ r ≡ noneIn (now (table .entry)) raw ⌝ }
 {
     let unknown = same_or(table[KEYS + q], raw, 0, 1);
@@ -106,7 +106,7 @@ fn span_place(raw: u64, low: u64, entries: u64) -> u64
 }
 
 fn span_entry(table: &[u64], raw: u64, low: u64, entries: u64) -> u64
-    requires { ⌜ (entries ≤ 1024) × (low + entries ≤ 2 ^ 64) × (1056 ≤ length (now table)) × (low ≡ getD (now table) 2 0) × (entries ≡ getD (now table) 1 0) ⌝ }
+    requires { ⌜ (entries ≤ 512) × (low + entries ≤ 2 ^ 64) × (544 ≤ length (now table)) × (low ≡ getD (now table) 2 0) × (entries ≡ getD (now table) 1 0) ⌝ }
     ensures { λ r. ⌜ r ≡ spanEntry (now (table .entry)) raw ⌝ }
 {
     table[ENTRIES + span_place(raw, low, entries) as usize]
@@ -132,7 +132,7 @@ fn placed(out: u64, into: u64, up: u32, ones: u64) -> u64
 
 // Numbers by a table of keys; how many have no symbol is returned.
 fn halves_each(t: &mut [u64], count: usize, w: Words, table: &[u64]) -> u64
-    requires { ⌜ Usable (now table) (w .into) × Fits 64 w × (count ≤ length (now t)) × (count ≤ 65536) × (1056 ≤ length (now table)) × (getD (now table) 1 0 ≡ 0) ⌝ }
+    requires { ⌜ Usable (now table) (w .into) × Fits 64 w × (count ≤ length (now t)) × (count ≤ 65536) × (544 ≤ length (now table)) × (getD (now table) 1 0 ≡ 0) ⌝ }
     ensures { λ r. ⌜ ((i : ℕ) → i < count → getD (now (t .exit)) i 0 ≡ symbolBy (now (table .entry)) w (getD (now (t .entry)) i 0)) × (r ≡ sumTo (λ i. missingBy (now (table .entry)) w (getD (now (t .entry)) i 0)) count) × (r ≤ count) ⌝ }
 {
     let shift = w.shift;
@@ -155,7 +155,7 @@ fn halves_each(t: &mut [u64], count: usize, w: Words, table: &[u64]) -> u64
 
 // Numbers by a table of a span.
 fn span_each(t: &mut [u64], count: usize, w: Words, table: &[u64]) -> u64
-    requires { ⌜ Usable (now table) (w .into) × Fits 64 w × (count ≤ length (now t)) × (count ≤ 65536) × (1056 ≤ length (now table)) × (1 ≤ getD (now table) 1 0) × (getD (now table) 2 0 + getD (now table) 1 0 ≤ 2 ^ 64) ⌝ }
+    requires { ⌜ Usable (now table) (w .into) × Fits 64 w × (count ≤ length (now t)) × (count ≤ 65536) × (544 ≤ length (now table)) × (1 ≤ getD (now table) 1 0) × (getD (now table) 2 0 + getD (now table) 1 0 ≤ 2 ^ 64) ⌝ }
     ensures { λ r. ⌜ ((i : ℕ) → i < count → getD (now (t .exit)) i 0 ≡ symbolBy (now (table .entry)) w (getD (now (t .entry)) i 0)) × (r ≡ sumTo (λ i. missingBy (now (table .entry)) w (getD (now (t .entry)) i 0)) count) × (r ≤ count) ⌝ }
 {
     let shift = w.shift;
@@ -178,7 +178,7 @@ fn span_each(t: &mut [u64], count: usize, w: Words, table: &[u64]) -> u64
 
 // Each of so many containers of the source as one of the destination, without its background; how many have no symbol is returned.
 pub fn translate_each(t: &mut [u64], count: usize, w: Words, table: &[u64]) -> u64
-    requires { ⌜ Usable (now table) (w .into) × Fits 64 w × (count ≤ length (now t)) × (count ≤ 65536) × (1056 ≤ length (now table)) × (getD (now table) 2 0 + getD (now table) 1 0 ≤ 2 ^ 64) ⌝ }
+    requires { ⌜ Usable (now table) (w .into) × Fits 64 w × (count ≤ length (now t)) × (count ≤ 65536) × (544 ≤ length (now table)) × (getD (now table) 2 0 + getD (now table) 1 0 ≤ 2 ^ 64) ⌝ }
     ensures { λ r. ⌜ ((i : ℕ) → i < count → getD (now (t .exit)) i 0 ≡ symbolBy (now (table .entry)) w (getD (now (t .entry)) i 0)) × (r ≡ sumTo (λ i. missingBy (now (table .entry)) w (getD (now (t .entry)) i 0)) count) × (r ≤ count) ⌝ }
 {
     if table[ENTRY_COUNT] == 0 {
@@ -202,7 +202,7 @@ pub fn symbol_column(
     table: &[u64],
     wide: &mut [u64],
 ) -> u64
-    requires { ⌜ Usable (now table) (w .into) × Fits 64 w × (1056 ≤ length (now table)) × (getD (now table) 2 0 + getD (now table) 1 0 ≤ 2 ^ 64) × («source_byte» + w .«source_size» ≤ «source_size») × («destination_byte» + w .size ≤ «destination_size») × (count ≤ 65536) × (count ≤ length (now wide)) × (count * «source_size» ≤ length (now src)) × (count * «destination_size» ≤ length (now dst)) ⌝ }
+    requires { ⌜ Usable (now table) (w .into) × Fits 64 w × (544 ≤ length (now table)) × (getD (now table) 2 0 + getD (now table) 1 0 ≤ 2 ^ 64) × («source_byte» + w .«source_size» ≤ «source_size») × («destination_byte» + w .size ≤ «destination_size») × (count ≤ 65536) × (count ≤ length (now wide)) × (count * «source_size» ≤ length (now src)) × (count * «destination_size» ≤ length (now dst)) ⌝ }
     ensures { λ r. ⌜ (now (dst .exit) ≡ eachSymbol (now (table .entry)) w «destination_byte» «source_byte» «source_size» «destination_size» (now (src .entry)) count (now (dst .entry))) × (r ≡ raisedSymbols (now (table .entry)) w «source_byte» «source_size» (now (src .entry)) count) × (r ≤ count) ⌝ }
 {
     let from = w.source_order;
@@ -240,7 +240,7 @@ pub fn symbols_raised(
     table: &[u64],
     wide: &mut [u64],
 ) -> u64
-    requires { ⌜ Usable (now table) (w .into) × Fits 64 w × (1056 ≤ length (now table)) × (getD (now table) 2 0 + getD (now table) 1 0 ≤ 2 ^ 64) × («source_byte» + w .«source_size» ≤ «source_size») × (count ≤ 65536) × (count ≤ length (now wide)) × (count * «source_size» ≤ length (now src)) ⌝ }
+    requires { ⌜ Usable (now table) (w .into) × Fits 64 w × (544 ≤ length (now table)) × (getD (now table) 2 0 + getD (now table) 1 0 ≤ 2 ^ 64) × («source_byte» + w .«source_size» ≤ «source_size») × (count ≤ 65536) × (count ≤ length (now wide)) × (count * «source_size» ≤ length (now src)) ⌝ }
     ensures { λ r. ⌜ (r ≡ raisedSymbols (now (table .entry)) w «source_byte» «source_size» (now (src .entry)) count) × (r ≤ count) ⌝ }
 {
     let from = w.source_order;

@@ -44,7 +44,7 @@ entries-more table words start n w q {v} all room r e =
     (λ j h. getD-set-other table (16 + n) (16 + j) v 0 (λ g. omega (arith, g)) ∙ all j h)
     (getD-set-same table (16 + n) v 0 room ∙ e ∙ ap (λ (y : ℕ). entryOf q (codeBits w q y)) (r .is))
 
-module _ (t : List ℕ) (n last pair low : ℕ) (long : 1056 ≤ length t) (few : n ≤ 1024) where
+module _ (t : List ℕ) (n last pair low : ℕ) (long : 544 ≤ length t) (few : n ≤ 512) where
   abbrev a₁ : List ℕ
   a₁ = set t (16 + n) last
 
@@ -98,7 +98,7 @@ module _ (t : List ℕ) (n last pair low : ℕ) (long : 1056 ≤ length t) (few 
   -- the whole table of a span
   pub span-put : (words : List ℕ) (k : ℕ) (w : List ℕ) (q : ℕ) {start : ℕ} → Reads (getD words (k + 2) 0) n → Reads (getD words (k + 1) 0) low → Reads (getD words (k + 3) 0) start
       → Entries t words start n w q → last ≡ entryOf q (codeBits w q 0)
-      → (getD a₅ 0 0 ≡ pair) × SpanTable a₅ words k w q × (getD a₅ 1 0 ≤ 1024) × (getD a₅ 2 0 < 4294967296)
+      → (getD a₅ 0 0 ≡ pair) × SpanTable a₅ words k w q × (getD a₅ 1 0 ≤ 512) × (getD a₅ 2 0 < 4294967296)
   span-put words k w q rn rl rs all e = (
     head-0,
     record {

@@ -130,7 +130,7 @@ module _ (table words : List ℕ) (k : ℕ) (wd : List ℕ) (q : ℕ) (t : SpanT
         go true e = rw (no-key raw, no-row (eqb-true (getD table 1 0) 0 e) raw) (sym (mod-eq-of-lt (ones-lt q)), refl)
         go false e = rw (span-entry raw) (entry-bits q narrow c, entry-none q narrow c)
 
-    span-usable : getD table 1 0 ≤ 1024 → Usable table (2 ^ q - 1)
+    span-usable : getD table 1 0 ≤ 512 → Usable table (2 ^ q - 1)
     span-usable few =
         record {
           few = few;
@@ -140,7 +140,7 @@ module _ (table words : List ℕ) (k : ℕ) (wd : List ℕ) (q : ℕ) (t : SpanT
         }
 
 pub span-table : (s d : ℕ) (ws wd words : List ℕ) (k : ℕ) {table : List ℕ} {m : Layout} → m ≡ layoutAt wd d → m .precision ≤ 32 → SpanTable table words k wd (m .precision)
-    → getD table 1 0 ≤ 1024 → getD table 2 0 < 4294967296 → 4 ≤ routeIn (getD words k 0) → routeIn (getD words k 0) < 7 → TableFor table s d ws wd words k
+    → getD table 1 0 ≤ 512 → getD table 2 0 < 4294967296 → 4 ≤ routeIn (getD words k 0) → routeIn (getD words k 0) < 7 → TableFor table s d ws wd words k
 span-table s d ws wd words k {table} {m} em narrow t few small enum most p =
     let q : ℕ = layoutAt wd d .precision in
     let span : SpanAt words k ws (p .sourceText) wd (p .destinationText) s d = p .entry .span enum most in

@@ -41,7 +41,7 @@ use table::read::word;
 const LOWEST: usize = 2;
 
 // The most entries of a span in the table, and bits of an entry.
-const MOST_ENTRIES: usize = 1024;
+const MOST_ENTRIES: usize = 512;
 
 const ENTRY_BITS: u32 = 32;
 
@@ -75,7 +75,7 @@ fn put_entries(
     half: &[u32],
     precision: u32,
 )
-    requires { ⌜ (1056 ≤ length (now table)) × (start < 4294967296) × (count ≤ 1024) × (precision ≤ 32) ⌝ }
+    requires { ⌜ (544 ≤ length (now table)) × (start < 4294967296) × (count ≤ 512) × (precision ≤ 32) ⌝ }
     ensures { λ _. ⌜ ((j : ℕ) → j < count → getD (now (table .exit)) (16 + j) 0 ≡ entryOf precision (codeBits (now (half .entry)) precision (getD (now (words .entry)) (start + j) 0))) ⌝ }
 {
     let mut j: usize = 0;
@@ -94,8 +94,8 @@ fn put_span(
     half: &[u32],
     precision: u32,
 ) -> bool
-    requires { ⌜ (1056 ≤ length (now table)) × (place + 4 ≤ length (now words)) × (precision ≤ 32) ⌝ }
-    ensures { λ r. ⌜ (r ≡ true → (getD (now (table .exit)) 0 0 ≡ pair) × SpanTable (now (table .exit)) (now (words .entry)) place (now (half .entry)) precision × (getD (now (table .exit)) 1 0 ≤ 1024) × (getD (now (table .exit)) 2 0 < 4294967296)) ⌝ }
+    requires { ⌜ (544 ≤ length (now table)) × (place + 4 ≤ length (now words)) × (precision ≤ 32) ⌝ }
+    ensures { λ r. ⌜ (r ≡ true → (getD (now (table .exit)) 0 0 ≡ pair) × SpanTable (now (table .exit)) (now (words .entry)) place (now (half .entry)) precision × (getD (now (table .exit)) 1 0 ≤ 512) × (getD (now (table .exit)) 2 0 < 4294967296)) ⌝ }
 {
     let count = at(words, place + SPAN_COUNT);
     if MOST_ENTRIES < count {
@@ -224,7 +224,7 @@ fn put_halves(
     place: usize,
     precision: u32,
 ) -> bool
-    requires { ⌜ (1056 ≤ length (now table)) × (precision ≡ layoutAt (now «destination_half») «destination_type» .precision) × (precision ≤ 64) × Valid (layoutAt (now «source_half») «source_type») × (place + 4 ≤ length (now words)) × (4 ≤ routeIn (getD (now words) place 0)) ⌝ }
+    requires { ⌜ (544 ≤ length (now table)) × (precision ≡ layoutAt (now «destination_half») «destination_type» .precision) × (precision ≤ 64) × Valid (layoutAt (now «source_half») «source_type») × (place + 4 ≤ length (now words)) × (4 ≤ routeIn (getD (now words) place 0)) ⌝ }
     ensures { λ r. ⌜ (r ≡ true → (getD (now (table .exit)) 0 0 ≡ pair) × TableFor (now (table .exit)) «source_type» «destination_type» (now («source_half» .entry)) (now («destination_half» .entry)) (now (words .entry)) place) ⌝ }
 {
     let count = symbol_rows(source_half, source_type);
@@ -262,7 +262,7 @@ fn put_table(
     words: &[u32],
     place: usize,
 ) -> bool
-    requires { ⌜ (1056 ≤ length (now table)) × (place + 4 ≤ length (now words)) × (4 ≤ routeIn (getD (now words) place 0)) × Pair «source_type» «destination_type» (now «source_half») (now «destination_half») (now words) place ⌝ }
+    requires { ⌜ (544 ≤ length (now table)) × (place + 4 ≤ length (now words)) × (4 ≤ routeIn (getD (now words) place 0)) × Pair «source_type» «destination_type» (now «source_half») (now «destination_half») (now words) place ⌝ }
     ensures { λ r. ⌜ (r ≡ true → (getD (now (table .exit)) 0 0 ≡ pair) × TableFor (now (table .exit)) «source_type» «destination_type» (now («source_half» .entry)) (now («destination_half» .entry)) (now (words .entry)) place) ⌝ }
 {
     let m = layout_at(destination_half, destination_type);
@@ -294,7 +294,7 @@ pub fn table_for(
     words: &[u32],
     place: usize,
 ) -> bool
-    requires { ⌜ (1056 ≤ length (now table)) × («source_type» < 4294967296) × («destination_type» < 64) × (place + 4 ≤ length (now words)) × (4 ≤ routeIn (getD (now words) place 0)) × ((p : Pair «source_type» «destination_type» (now «source_half») (now «destination_half») (now words) place) × SymbolsKept (now table) (now «source_half») (p .sourceText) (now «destination_half») (p .destinationText)) ⌝ }
+    requires { ⌜ (544 ≤ length (now table)) × («source_type» < 4294967296) × («destination_type» < 64) × (place + 4 ≤ length (now words)) × (4 ≤ routeIn (getD (now words) place 0)) × ((p : Pair «source_type» «destination_type» (now «source_half») (now «destination_half») (now words) place) × SymbolsKept (now table) (now «source_half») (p .sourceText) (now «destination_half») (p .destinationText)) ⌝ }
     ensures { λ r. ⌜ ((p : Pair «source_type» «destination_type» (now («source_half» .entry)) (now («destination_half» .entry)) (now (words .entry)) place) → SymbolsKept (now (table .entry)) (now («source_half» .entry)) (p .sourceText) (now («destination_half» .entry)) (p .destinationText) → SymbolsKept (now (table .exit)) (now («source_half» .entry)) (p .sourceText) (now («destination_half» .entry)) (p .destinationText)) × (r ≡ true → getD (now (table .exit)) 0 0 ≡ 64 * «source_type» + «destination_type» + 1) ⌝ }
 {
     let pair = (TYPES * source_type + destination_type + 1) as u64;

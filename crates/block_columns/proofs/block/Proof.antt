@@ -4,35 +4,40 @@ use mathlib.Core.List.{List}
 use Prim.Native.Nat.{ℕ, _*_, _-_, _≤_}
 use native.Mathlib.Omega.{arith}
 use lib.ListN.{length}
-use Rattle.plans.specs.PlanWords.{Ready}
-use Rattle.plans.proofs.Entries.{entry-room, entry-ready}
+use Rattle.plans.specs.PlanWords.{wordsPlace, Ready}
+use Rattle.plans.proofs.Entries.{entry-room}
 use Rattle.column_slots.specs.Slots.{Kept}
-use Rattle.block_columns.specs.Plain.{AllPlain}
+use Rattle.symbol_slots.specs.Tables.{TablesKept, Columned}
+use Rattle.block_columns.proofs.Entries.{entry-by, column-by, kept-by}
 use Rattle.blocks.proofs.Over.{Over, over-start, over-turn, over-end}
 use Rattle.block_columns.proofs.block.Statement.{statement}
 use Rattle.block_columns.proofs.block.Tie as tie
 
 abbrev Inv-loop : tie.InvT-loop
-Inv-loop src dst₀ k s d plan n ws wd slots₀ narrow₀ wide₀ raised₀ i₀ dst slots narrow wide raised i =
+Inv-loop src dst₀ k s d plan n ws wd slots₀ narrow₀ wide₀ tables raised₀ i₀ dst slots narrow wide raised i =
     (i ≤ n) × (length dst ≡ length dst₀) × (length slots ≡ length slots₀) × (length narrow ≡ length narrow₀) × (length wide ≡ length wide₀) × (raised ≤ i * 65536) × Kept slots ws wd
-    × ((words : List ℕ) (p : Ready s d plan n ws wd words) → AllPlain words n → Over p src k dst₀ i dst raised)
+    × ((words : List ℕ) (p : Ready s d plan n ws wd words) → Columned tables plan n words → TablesKept tables ws (p .sourceText) wd (p .destinationText) → Over p src k dst₀ i dst raised)
 
 abbrev μ-loop : tie.MeasureT-loop
-μ-loop src dst₀ k s d plan n ws wd slots₀ narrow₀ wide₀ raised₀ i₀ dst slots narrow wide raised i = n - i
+μ-loop src dst₀ k s d plan n ws wd slots₀ narrow₀ wide₀ tables raised₀ i₀ dst slots narrow wide raised i = n - i
 
 loop-holds : tie.Need-loop-holds Inv-loop μ-loop
-loop-holds c = (omega arith, refl, refl, refl, refl, omega arith, c .before .before .before .before .before .before .before .before .pre .1, λ words p plain. over-start _ _ _ _ _ _ _ p _ _ _)
+loop-holds c = (omega arith, refl, refl, refl, refl, omega arith, c .before .before .before .before .before .before .before .before .before .pre .2, λ words p has kept. over-start _ _ _ _ _ _ _ p _ _ _)
 
 entry-requires : tie.Need-entry-requires Inv-loop μ-loop
-entry-requires c κs = entry-room _ _ _ _ _ _ _ (c .before .before .before .before .before .before .before .before .before .before .pre .0 .1) (c .before .loop .i) (omega arith)
+entry-requires c κs = entry-room _ _ _ _ _ _ _ (c .before .before .before .before .before .before .before .before .before .before .before .pre .0 .1) (c .before .loop .i) (omega arith)
 
 entry-column-requires : tie.Need-entry-column-requires Inv-loop μ-loop
 entry-column-requires c κs =
-    let start = c .before .before .before .before .before .before .before .before .before .before .before .before .before .before .before in
+    let start = c .before .before .before .before .before .before .before .before .before .before .before .before .before .before .before .before in
     let l = c .before .before .before .before .before .before .loop in
     let here = c .before .before .before .before .before .loop-test .taken in
-    let job = start .pre .0 in (
-      (l .i, job .0, entry-ready _ _ _ _ _ _ _ (job .1) (l .i) here _ (c .before .before .before .before .entry .ensures .0), job .2 (l .i) here),
+    let is = c .before .before .before .before .entry .ensures .0 in
+    let a = start .args in
+    let job = start .pre .0 in
+    let entry = entry-by (job .1) (l .i) here is (a .tables .now) (job .3) in (
+      (l .i, job .0, entry .0, column-by (a .tables .now) (job .0) (wordsPlace (l .i)) (a .plan .now) (l .i) is (job .2 (l .i) here), entry .1),
+      start .pre .1,
       l .inv .6,
       omega arith,
       omega arith,
@@ -44,13 +49,15 @@ entry-column-requires c κs =
 
 add-raised : tie.Need-add-raised Inv-loop μ-loop
 add-raised c =
-    let start = c .before .before .before .before .before .before .before .before .before .before .before .before .before .before .before .before .before .before .before .before .before .before .before .before in
-    omega (arith, start .pre .0 .1 .most, start .pre .3, c .before .before .before .before .before .before .before .before .before .before .before .before .before .before .before .loop .inv .5, c .before .before .before .before .before .before .before .before .before .before .before .before .before .before .loop-test .taken, c .before .before .before .before .before .before .before .before .entry-column .ensures .1)
+    let start = c .before .before .before .before .before .before .before .before .before .before .before .before .before .before .before .before .before .before .before .before .before .before .before .before .before in
+    omega (arith, start .pre .0 .1 .most, start .pre .4, c .before .before .before .before .before .before .before .before .before .before .before .before .before .before .before .loop .inv .5, c .before .before .before .before .before .before .before .before .before .before .before .before .before .before .loop-test .taken, c .before .before .before .before .before .before .before .before .entry-column .ensures .1)
 
 loop-again : tie.Need-loop-again Inv-loop μ-loop
 loop-again c =
-    let start = c .before .before .before .before .before .before .before .before .before .before .before .before .before .before .before .before .before .before .before .before .before .before .before .before in
+    let start = c .before .before .before .before .before .before .before .before .before .before .before .before .before .before .before .before .before .before .before .before .before .before .before .before .before in
     let l = c .before .before .before .before .before .before .before .before .before .before .before .before .before .before .before .loop in
+    let a = start .args in
+    let is = c .before .before .before .before .before .before .before .before .before .before .before .before .before .entry .ensures .0 in
     let call = c .before .before .before .before .before .before .before .before .entry-column in
     let here = c .before .before .before .before .before .before .before .before .before .before .before .before .before .before .loop-test .taken in (
       omega (arith, here),
@@ -58,15 +65,15 @@ loop-again c =
       call .kept .1 .1 .1 .1 .1 .1 .1 .1 .0 ∙ l .inv .2,
       call .kept .1 .1 .1 .1 .1 .1 .1 .1 .1 .0 ∙ l .inv .3,
       call .kept .1 .1 .1 .1 .1 .1 .1 .1 .1 .1 .0 ∙ l .inv .4,
-      omega (arith, l .inv .5, start .pre .3, call .ensures .1),
+      omega (arith, l .inv .5, start .pre .4, call .ensures .1),
       call .ensures .2,
-      λ words p plain. over-turn _ _ _ _ _ _ _ p _ _ _ (l .i) (l .raised) (call .result) (l .dst) (call .last .1 .0) here (l .inv .7 words p plain) (c .before .before .before .before .before .before .before .before .before .before .before .before .before .entry .ensures .0) (λ q. call .ensures .0 (l .i) words q (plain (l .i) here)),
+      λ words p has kept. over-turn _ _ _ _ _ _ _ p _ _ _ (l .i) (l .raised) (call .result) (l .dst) (call .last .1 .0) here (l .inv .7 words p has kept) is (λ q texts. call .ensures .0 (l .i) words q (column-by (a .tables .now) words (wordsPlace (l .i)) (a .plan .now) (l .i) is (has (l .i) here)) (kept-by p q texts (a .tables .now) kept)),
     )
 
 returns : tie.Need-returns Inv-loop μ-loop
 returns c =
     let l = c .before .loop in
-    ((λ words p plain. over-end _ _ _ _ _ _ _ p _ _ _ (l .i) (l .raised) (l .dst) (omega arith) (l .inv .7 words p plain)), l .inv .6)
+    ((λ words p has kept. over-end _ _ _ _ _ _ _ p _ _ _ (l .i) (l .raised) (l .dst) (omega arith) (l .inv .7 words p has kept)), l .inv .6)
 
 pub block-spec : {M : Type 1} → statement M
 block-spec =
@@ -78,7 +85,7 @@ block-spec =
     entry-requires
     entry-column-requires
     add-raised
-    (λ c. omega (arith, c .before .before .before .before .before .before .before .before .before .before .before .before .before .before .loop-test .taken, c .before .before .before .before .before .before .before .before .before .before .before .before .before .before .before .before .before .before .before .before .before .before .before .before .pre .0 .1 .most))
+    (λ c. omega (arith, c .before .before .before .before .before .before .before .before .before .before .before .before .before .before .loop-test .taken, c .before .before .before .before .before .before .before .before .before .before .before .before .before .before .before .before .before .before .before .before .before .before .before .before .before .pre .0 .1 .most))
     (λ c. omega (arith, c .before .before .before .before .before .before .before .before .before .before .before .before .before .before .loop-test .taken))
     loop-again
     (λ c. c .before .loop .inv .1)

@@ -18,29 +18,29 @@ use Rattle.copy_blocks.proofs.copy_plain.Statement.{statement}
 use Rattle.copy_blocks.proofs.copy_plain.Tie as tie
 
 abbrev Inv-loop : tie.InvT-loop
-Inv-loop src dst₀ c s d plan n ws wd words parts few slots₀ narrow₀ wide₀ at-once raised₀ i₀ dst slots narrow wide raised i =
+Inv-loop src dst₀ c s d plan n ws wd words tables parts few slots₀ narrow₀ wide₀ at-once raised₀ i₀ dst slots narrow wide raised i =
     (i ≤ c) × (length dst ≡ length dst₀) × (length slots ≡ 1024) × (length narrow ≡ 256) × (length wide ≡ 256) × Kept slots ws wd
     × ((j : Job s d plan n ws wd words) → Done (j .source) (j .destination) d c src dst₀ i dst raised)
 
 abbrev μ-loop : tie.MeasureT-loop
-μ-loop src dst₀ c s d plan n ws wd words parts few slots₀ narrow₀ wide₀ at-once raised₀ i₀ dst slots narrow wide raised i = c - i
+μ-loop src dst₀ c s d plan n ws wd words tables parts few slots₀ narrow₀ wide₀ at-once raised₀ i₀ dst slots narrow wide raised i = c - i
 
 parts-of-requires : tie.Need-parts-of-requires Inv-loop μ-loop
 parts-of-requires c κs =
-    let start = c .before .before .before .before .before .before in
+    let start = c .before .before .before .before .before .before .before in
     (start .args .words .now, job-ready (start .pre .0))
 
 loop-holds : tie.Need-loop-holds Inv-loop μ-loop
 loop-holds c =
-    let a = c .before .before .before .before .before .before .before .before .before .before .args in
+    let a = c .before .before .before .before .before .before .before .before .before .before .before .args in
     (omega arith, refl, refl, refl, refl, kept-none (a .source-half .now) (a .destination-half .now), λ j. copy-turns.start (j .source) (j .destination) (a .destination-size) (a .count) (a .src .now) (a .dst .now))
 
 -- the block lies within both
 rows : (c : tie.After-least Inv-loop μ-loop)
-    → (let a = c .before .before .before .before .before .before .before .before .before .before .before .before .before .args in let i = c .before .before .loop .i in let k = c .least .result in
+    → (let a = c .before .before .before .before .before .before .before .before .before .before .before .before .before .before .args in let i = c .before .before .loop .i in let k = c .least .result in
     (i * a .source-size + k * a .source-size ≤ a .count * a .source-size) × (i * a .destination-size + k * a .destination-size ≤ a .count * a .destination-size) × (i + k ≤ a .count))
 rows c =
-    let a = c .before .before .before .before .before .before .before .before .before .before .before .before .before .args in
+    let a = c .before .before .before .before .before .before .before .before .before .before .before .before .before .before .args in
     let i = c .before .before .loop .i in
     let k = c .least .result in
     let within : i + k ≤ a .count = omega (arith, c .least .ensures, c .before .loop-test .taken) in
@@ -48,51 +48,53 @@ rows c =
 
 grouped-block-requires : tie.Need-grouped-block-requires Inv-loop μ-loop
 grouped-block-requires c κs =
-    let start = c .before .before .before .before .before .before .before .before .before .before .before .before .before .before .before .before .before .before in
+    let start = c .before .before .before .before .before .before .before .before .before .before .before .before .before .before .before .before .before .before .before in
     let a = start .args in
     let l = c .before .before .before .before .before .before .before .loop in
     let least = c .before .before .before .before .before .least in
+    let tabled = start .pre .1 _ _ (job-ready (start .pre .0)) in
     let r = rows (c .before .before .before .before .before) in (
-      (a .words .now, job-ready (start .pre .0), start .pre .1),
+      (a .words .now, job-ready (start .pre .0), tabled .1, tabled .0),
+      start .pre .2,
       c .before .before .before .before .before .before .before .before .before .before .before .parts-of .ensures,
       l .inv .5,
       omega (arith, l .inv .2),
-      omega (arith, r .2, start .pre .2),
+      omega (arith, r .2, start .pre .3),
       omega (arith, l .inv .3),
       omega (arith, l .inv .4),
-      lent-room (l .i * a .source-size) (least .result * a .source-size) (a .src .now) (omega (arith, r .0, start .pre .3)),
-      lent-room (l .i * a .destination-size) (least .result * a .destination-size) (l .dst) (omega (arith, r .1, l .inv .1, start .pre .4)),
+      lent-room (l .i * a .source-size) (least .result * a .source-size) (a .src .now) (omega (arith, r .0, start .pre .4)),
+      lent-room (l .i * a .destination-size) (least .result * a .destination-size) (l .dst) (omega (arith, r .1, l .inv .1, start .pre .5)),
     )
 
 -- k records more
 next : (c : tie.After-grouped-block Inv-loop μ-loop)
-    → (let a = c .before .before .before .before .before .before .before .before .before .before .before .before .before .before .before .before .before .before .before .args in let l = c .before .before .before .before .before .before .before .before .loop in
+    → (let a = c .before .before .before .before .before .before .before .before .before .before .before .before .before .before .before .before .before .before .before .before .args in let l = c .before .before .before .before .before .before .before .before .loop in
     (j : Job (a .source-size) (a .destination-size) (a .plan .now) (a .entries) (a .source-half .now) (a .destination-half .now) (a .words .now))
     → Done (j .source) (j .destination) (a .destination-size) (a .count) (a .src .now) (a .dst .now) (l .i + c .before .before .before .before .before .before .least .result) (putMid (l .i * a .destination-size) (length (l .dst) - l .i * a .destination-size) (l .dst) (c .grouped-block .last .1 .0)) (l .raised + c .grouped-block .result))
 next c j =
-    let start = c .before .before .before .before .before .before .before .before .before .before .before .before .before .before .before .before .before .before .before in
+    let start = c .before .before .before .before .before .before .before .before .before .before .before .before .before .before .before .before .before .before .before .before in
     let a = start .args in
     let l = c .before .before .before .before .before .before .before .before .loop in
     let call = c .grouped-block in
-    job-turn j (a .count) (a .src .now) (a .dst .now) (start .pre .4) (l .i) (c .before .before .before .before .before .before .least .result) (l .raised) (call .result) (l .dst) (call .last .1 .0) (rows (c .before .before .before .before .before .before) .2) (l .inv .1) (l .inv .6 j) (λ t. call .ensures .0 (a .words .now) t (start .pre .1))
+    job-turn j (a .count) (a .src .now) (a .dst .now) (start .pre .5) (l .i) (c .before .before .before .before .before .before .least .result) (l .raised) (call .result) (l .dst) (call .last .1 .0) (rows (c .before .before .before .before .before .before) .2) (l .inv .1) (l .inv .6 j) (λ t. call .ensures .0 (a .words .now) t (start .pre .1 _ _ t .1) (start .pre .1 _ _ t .0))
 
 add-raised : tie.Need-add-raised Inv-loop μ-loop
 add-raised c =
-    let start = c .before .before .before .before .before .before .before .before .before .before .before .before .before .before .before .before .before .before .before .before .before .before .before .before in
+    let start = c .before .before .before .before .before .before .before .before .before .before .before .before .before .before .before .before .before .before .before .before .before .before .before .before .before in
     let a = start .args in
     let l = c .before .before .before .before .before .before .before .before .before .before .before .before .before .loop in
     let j = start .pre .0 in
-    omega (arith, next (c .before .before .before .before .before) j .2, all-most j (a .src .now) (l .i + c .before .before .before .before .before .before .before .before .before .before .before .least .result), rows (c .before .before .before .before .before .before .before .before .before .before .before) .2, start .pre .2)
+    omega (arith, next (c .before .before .before .before .before) j .2, all-most j (a .src .now) (l .i + c .before .before .before .before .before .before .before .before .before .before .before .least .result), rows (c .before .before .before .before .before .before .before .before .before .before .before) .2, start .pre .3)
 
 loop-again : tie.Need-loop-again Inv-loop μ-loop
 loop-again c =
-    let start = c .before .before .before .before .before .before .before .before .before .before .before .before .before .before .before .before .before .before .before .before .before .before .before .before in
+    let start = c .before .before .before .before .before .before .before .before .before .before .before .before .before .before .before .before .before .before .before .before .before .before .before .before .before in
     let a = start .args in
     let l = c .before .before .before .before .before .before .before .before .before .before .before .before .before .loop in
     let call = c .before .before .before .before .before .grouped-block in
     let r = rows (c .before .before .before .before .before .before .before .before .before .before .before) in (
       r .2,
-      lent-length (l .i * a .destination-size) (l .dst) (call .last .1 .0) (omega (arith, r .1, l .inv .1, start .pre .4)) (call .kept .1 .0) ∙ l .inv .1,
+      lent-length (l .i * a .destination-size) (l .dst) (call .last .1 .0) (omega (arith, r .1, l .inv .1, start .pre .5)) (call .kept .1 .0) ∙ l .inv .1,
       call .kept .1 .1 .1 .1 .1 .1 .1 .1 .1 .1 .0 ∙ l .inv .2,
       call .kept .1 .1 .1 .1 .1 .1 .1 .1 .1 .1 .1 .0 ∙ l .inv .3,
       call .kept .1 .1 .1 .1 .1 .1 .1 .1 .1 .1 .1 .1 .0 ∙ l .inv .4,
@@ -130,7 +132,7 @@ copy-plain-spec =
     (λ c. sym (c .before .before .before .before .before .before .before .loop .inv .4))
     grouped-block-requires
     add-raised
-    (λ c. omega (arith, rows (c .before .before .before .before .before .before .before .before .before .before .before)))
+    (λ c. omega (arith, rows (c .before .before .before .before .before .before .before .before .before .before .before) .2, c .before .before .before .before .before .before .before .before .before .before .before .before .before .before .before .before .before .before .before .before .before .before .before .before .before .pre .3))
     (λ c. omega (arith, rows (c .before .before .before .before .before .before .before .before .before .before .before), c .before .before .before .before .before .before .before .before .before .before .before .least .ensures))
     loop-again
     (λ c. c .before .loop .inv .1)

@@ -17,35 +17,37 @@ use Rattle.place_blocks.proofs.plain_down.Statement.{statement}
 use Rattle.place_blocks.proofs.plain_down.Tie as tie
 
 abbrev Inv-loop : tie.InvT-loop
-Inv-loop buf₀ background staging₀ c s d plan n parts ws wd words slots₀ narrow₀ wide₀ at-once raised₀ i₀ buf staging slots narrow wide raised i =
+Inv-loop buf₀ background staging₀ c s d plan n parts ws wd words tables slots₀ narrow₀ wide₀ at-once raised₀ i₀ buf staging slots narrow wide raised i =
     (i ≤ c) × (length buf ≡ length buf₀) × (length staging ≡ length staging₀) × (length slots ≡ 1024) × (length narrow ≡ 256) × (length wide ≡ 256) × Kept slots ws wd
     × ((j : Job s d plan n ws wd words) → Down (j .source) (j .destination) s d c buf₀ background i buf raised)
 
 abbrev μ-loop : tie.MeasureT-loop
-μ-loop buf₀ background staging₀ c s d plan n parts ws wd words slots₀ narrow₀ wide₀ at-once raised₀ i₀ buf staging slots narrow wide raised i = i
+μ-loop buf₀ background staging₀ c s d plan n parts ws wd words tables slots₀ narrow₀ wide₀ at-once raised₀ i₀ buf staging slots narrow wide raised i = i
 
 staged-at-once-requires : tie.Need-staged-at-once-requires Inv-loop μ-loop
-staged-at-once-requires c κs = (source-some (c .before .before .before .before .before .before .before .pre .0), source-most (c .before .before .before .before .before .before .before .pre .0))
+staged-at-once-requires c κs = (source-some (c .before .before .before .before .before .before .before .before .pre .0), source-most (c .before .before .before .before .before .before .before .before .pre .0))
 
 loop-holds : tie.Need-loop-holds Inv-loop μ-loop
 loop-holds c =
-    let a = c .before .before .before .before .before .before .before .before .args in
+    let a = c .before .before .before .before .before .before .before .before .before .args in
     (omega arith, refl, refl, refl, refl, refl, kept-none (a .source-half .now) (a .destination-half .now), λ j. down-start (j .source) (j .destination) (j .sourceFormed) (j .destinationFormed) (a .source-size) (a .destination-size) (j .sourceSize) (j .destinationSize) (a .count) (a .buf .now) (a .background .now) (omega arith) (omega arith))
 
 replace-block-requires : tie.Need-replace-block-requires Inv-loop μ-loop
 replace-block-requires c κs =
-    let start = c .before .before .before .before .before .before .before .before .before .before .before .before .before .before .before .before in
+    let start = c .before .before .before .before .before .before .before .before .before .before .before .before .before .before .before .before .before in
     let a = start .args in
     let l = c .before .before .before .before .before .before .before .loop in
     let k = c .before .before .before .before .before .least .result in
     let at-once = c .before .before .before .before .before .before .before .before .staged-at-once .ensures in
-    let low : a .source-size ≤ a .destination-size = start .pre .4 in
+    let low : a .source-size ≤ a .destination-size = start .pre .5 in
     let within : (l .i - k) + k ≤ a .count = omega (arith, c .before .before .before .before .before .least .ensures .2, l .inv .0) in
     let few : k ≤ c .before .before .before .before .before .before .before .before .staged-at-once .result = c .before .before .before .before .before .least .ensures .1 in
     let rows = block-rows (l .i - k) k (a .count) (a .source-size) within in
+    let tabled = start .pre .1 _ _ (job-ready (start .pre .0)) in
     let places = block-rows (l .i - k) k (a .count) (a .destination-size) within in (
-      (a .words .now, job-ready (start .pre .0), start .pre .1),
+      (a .words .now, job-ready (start .pre .0), tabled .1, tabled .0),
       start .pre .2,
+      start .pre .3,
       l .inv .6,
       omega arith,
       omega (arith, few, at-once .1),
@@ -60,7 +62,7 @@ replace-block-requires c κs =
 -- there are no more exceptions than the records may have bytes
 counted : (c : tie.After-wide2 Inv-loop μ-loop) → c .before .before .before .before .before .before .before .before .before .before .before .before .before .before .before .loop .raised + c .before .before .before .before .before .before .before .replace-block .result ≤ 268435456
 counted c =
-    let start = c .before .before .before .before .before .before .before .before .before .before .before .before .before .before .before .before .before .before .before .before .before .before .before .before in
+    let start = c .before .before .before .before .before .before .before .before .before .before .before .before .before .before .before .before .before .before .before .before .before .before .before .before .before in
     let a = start .args in
     let l = c .before .before .before .before .before .before .before .before .before .before .before .before .before .before .before .loop in
     let k = c .before .before .before .before .before .before .before .before .before .before .before .before .before .least .result in
@@ -68,12 +70,12 @@ counted c =
     let few = c .before .before .before .before .before .before .before .before .before .before .before .before .before .least .ensures .2 in
     let within : (l .i - k) + k ≤ a .count = omega (arith, few, l .inv .0) in
     let back : l .i ≡ (l .i - k) + k = omega (arith, few) in
-    let turned = down-placed (start .pre .0) (a .count) (a .buf .now) (a .background .now) (start .pre .7) (l .i - k) k (l .raised) (o .result) (l .buf) _ within (l .inv .1) (λ t. o .ensures .0 (a .words .now) t (start .pre .1)) (start .pre .6) (start .pre .4) (rw back at (l .inv .7 (start .pre .0))) in
-    omega (arith, turned .2, all-most (start .pre .0) (a .buf .now) (a .count), start .pre .3)
+    let turned = down-placed (start .pre .0) (a .count) (a .buf .now) (a .background .now) (start .pre .8) (l .i - k) k (l .raised) (o .result) (l .buf) _ within (l .inv .1) (λ t. o .ensures .0 (a .words .now) t (start .pre .1 _ _ t .1) (start .pre .1 _ _ t .0)) (start .pre .7) (start .pre .5) (rw back at (l .inv .7 (start .pre .0))) in
+    omega (arith, turned .2, all-most (start .pre .0) (a .buf .now) (a .count), start .pre .4)
 
 loop-again : tie.Need-loop-again Inv-loop μ-loop
 loop-again c =
-    let start = c .before .before .before .before .before .before .before .before .before .before .before .before .before .before .before .before .before .before .before .before .before .before .before .before in
+    let start = c .before .before .before .before .before .before .before .before .before .before .before .before .before .before .before .before .before .before .before .before .before .before .before .before .before in
     let a = start .args in
     let l = c .before .before .before .before .before .before .before .before .before .before .before .before .before .before .before .loop in
     let k = c .before .before .before .before .before .before .before .before .before .before .before .before .before .least .result in
@@ -88,12 +90,12 @@ loop-again c =
       o .kept .1 .1 .1 .1 .1 .1 .1 .1 .1 .1 .1 .1 .1 .0 ∙ l .inv .4,
       o .kept .1 .1 .1 .1 .1 .1 .1 .1 .1 .1 .1 .1 .1 .1 .0 ∙ l .inv .5,
       o .ensures .1,
-      λ j. down-placed j (a .count) (a .buf .now) (a .background .now) (start .pre .7) (l .i - k) k (l .raised) (o .result) (l .buf) _ within (l .inv .1) (λ t. o .ensures .0 (a .words .now) t (start .pre .1)) (start .pre .6) (start .pre .4) (rw back at (l .inv .7 j)),
+      λ j. down-placed j (a .count) (a .buf .now) (a .background .now) (start .pre .8) (l .i - k) k (l .raised) (o .result) (l .buf) _ within (l .inv .1) (λ t. o .ensures .0 (a .words .now) t (start .pre .1 _ _ t .1) (start .pre .1 _ _ t .0)) (start .pre .7) (start .pre .5) (rw back at (l .inv .7 j)),
     )
 
 returns : tie.Need-returns Inv-loop μ-loop
 returns c =
-    let a = c .before .before .before .before .before .before .before .before .before .before .args in
+    let a = c .before .before .before .before .before .before .before .before .before .before .before .args in
     let l = c .before .loop in
     let end : a .count - a .count ≡ l .i = omega arith in
     (omega arith, λ j. rw end (l .inv .7 j))

@@ -13,18 +13,19 @@ use Rattle.staged_block.proofs.replace_block.Tie as tie
 
 grouped-block-requires : tie.Need-grouped-block-requires
 grouped-block-requires c κs =
-    let start = c .before .before .before .before .before .before .before .before .before .before .before .before .before .before .before .before .before .before .before .before .before .before .before .before .before in
+    let start = c .before .before .before .before .before .before .before .before .before .before .before .before .before .before .before .before .before .before .before .before .before .before .before .before .before .before in
     let a = start .args in
     let at = a .i * a .destination-size in (
       start .pre .0,
       start .pre .1,
       start .pre .2,
       start .pre .3,
-      omega (arith, start .pre .4),
-      omega (arith, start .pre .4, start .pre .5),
-      omega (arith, start .pre .4, start .pre .6),
-      omega (arith, start .pre .7, c .before .before .before .before .before .before .before .before .before .before .before .before .copy-bytes .kept .0),
-      lent-room at (a .k * a .destination-size) (putMid at (length (a .buf .now) - at) (a .buf .now) (c .before .before .before .before .before .before .before .copy-bytes2 .last .0)) (omega (arith, start .pre .9, c .before .before .before .before .before .before .buf2 .given .1)),
+      start .pre .4,
+      omega (arith, start .pre .5),
+      omega (arith, start .pre .5, start .pre .6),
+      omega (arith, start .pre .5, start .pre .7),
+      omega (arith, start .pre .8, c .before .before .before .before .before .before .before .before .before .before .before .before .copy-bytes .kept .0),
+      lent-room at (a .k * a .destination-size) (putMid at (length (a .buf .now) - at) (a .buf .now) (c .before .before .before .before .before .before .before .copy-bytes2 .last .0)) (omega (arith, start .pre .10, c .before .before .before .before .before .before .buf2 .given .1)),
     )
 
 same-length : tie.Need-same-length
@@ -32,10 +33,10 @@ same-length c = c .before .before .before .before .before .before .before .buf3 
 
 returns : tie.Need-returns
 returns c =
-    let start = c .before .before .before .before .before .before .before .before .before .before .before .before .before .before .before .before .before .before .before .before .before .before .before .before .before .before .before .before .before .before .before .before .before .before in
+    let start = c .before .before .before .before .before .before .before .before .before .before .before .before .before .before .before .before .before .before .before .before .before .before .before .before .before .before .before .before .before .before .before .before .before .before .before in
     let a = start .args in
     let call = c .before .before .before .before .before .before .before .before .grouped-block .ensures in (
-      (λ words p plain. staged-block (a .source-size) (a .destination-size) (entriesOf p) (p .sound) (a .k) (a .buf .now) (a .background .now) _ _ _ _ (a .i * a .source-size) (a .i * a .destination-size) _ (start .pre .8) (start .pre .9) (start .pre .10) (c .before .before .before .before .before .before .before .before .before .before .before .before .before .before .before .before .before .before .before .before .before .copy-bytes .ensures) (c .before .before .before .before .before .before .before .before .before .before .before .before .before .before .before .before .copy-bytes2 .ensures) (call .0 words p plain)),
+      (λ words p has kept. staged-block (a .source-size) (a .destination-size) (entriesOf p) (p .sound) (a .k) (a .buf .now) (a .background .now) _ _ _ _ (a .i * a .source-size) (a .i * a .destination-size) _ (start .pre .9) (start .pre .10) (start .pre .11) (c .before .before .before .before .before .before .before .before .before .before .before .before .before .before .before .before .before .before .before .before .before .copy-bytes .ensures) (c .before .before .before .before .before .before .before .before .before .before .before .before .before .before .before .before .copy-bytes2 .ensures) (call .0 words p has kept)),
       call .1,
     )
 
