@@ -2,7 +2,7 @@
 use mathlib.Core.Path.{_≡_, refl, sym, ap, _∙_}
 use mathlib.Core.List.{List}
 use Prim.Native.Nat.{ℕ, zero, suc, _+_, _-_, _*_, _/_, _%_, _^_, _≤_, _<_}
-use native.Mathlib.Nat.{mod-eq-of-lt, mul-le-mul-right}
+use native.Mathlib.Nat.{mod-eq-of-lt, mul-le-mul-right, lt-of-le-of-lt}
 use native.Mathlib.Omega.{arith}
 use borrow.Author.Tests.{lt-ltb, le-ltb}
 use lib.Bits.{bitAnd, and-le-r}
@@ -41,6 +41,12 @@ module _ (low high b : ℕ) where
   pub count-none : b ≤ high → low ≤ b → (0 ≡ raises (kindBy low high b)) × (0 ≤ 1)
   count-none h k = simp (le-ltb high b h, le-ltb b low k) (refl, omega arith)
 
+-- what a wrapped difference says of them, where low is 0
+pub over-counts : (high b r : ℕ) → (r ≡ 1 → high < b) × (r ≡ 0 → b ≤ high) × (r ≤ 1) → (r ≡ raises (kindBy 0 high b)) × (r ≤ 1)
+over-counts high b zero h = count-none 0 high b (h .1 refl) (omega arith)
+over-counts high b (suc zero) h = count-high 0 high b (h .0 refl)
+over-counts high b (suc (suc r)) h = absurd (omega (arith, h .2))
+
 -- ---- its place
 
 module _ (v into up ones : ℕ) (fits : into * 2 ^ up + ones < 2 ^ v) where
@@ -74,12 +80,12 @@ numberBy shift half mask low high into up ones x = bitAnd (clamped low high (bit
 unfoldable pub outsideBy : (shift half mask low high : ℕ) → ℕ → ℕ
 outsideBy shift half mask low high x = raises (kindBy low high (bitAnd (x / 2 ^ shift + half) mask))
 
--- between the ends low and high, and outside those of w
+-- between the ends low and high, and outside them
 abbrev pub numberIn : Words → ℕ → ℕ → ℕ → ℕ
 numberIn w low high = numberBy (w .shift) (w .half) (w .mask) low high (w .into) (w .up) (w .ones)
 
-abbrev pub outsideOf : Words → ℕ → ℕ
-outsideOf w = outsideBy (w .shift) (w .half) (w .mask) (w .low) (w .high)
+abbrev pub outsideIn : Words → ℕ → ℕ → ℕ → ℕ
+outsideIn w low high = outsideBy (w .shift) (w .half) (w .mask) low high
 
 -- ---- the turns of a loop: of the numbers t₀ the first i are made, those from i on as they were, and those outside counted
 
@@ -92,8 +98,8 @@ Counted f t₀ i raised = (raised ≡ sumTo (λ j. f (getD t₀ j 0)) i) × (rai
 pub made-start : (w : Words) (low high : ℕ) (t : List ℕ) → Made (numberIn w low high) t t 0
 made-start w low high t = (refl, (λ j h. absurd (omega arith)), (λ j h. refl))
 
-pub count-start : (w : Words) (t : List ℕ) → Counted (outsideOf w) t 0 0
-count-start w t = (sum-start (λ j. outsideOf w (getD t j 0)), omega arith)
+pub count-start : (w : Words) (low high : ℕ) (t : List ℕ) → Counted (outsideIn w low high) t 0 0
+count-start w low high t = (sum-start (λ j. outsideIn w low high (getD t j 0)), omega arith)
 
 module _ (w : Words) (t₀ t : List ℕ) (i : ℕ) {b : ℕ} (hb : b ≡ biasBy w (getD t i 0)) where
   pub made-turn : (low high : ℕ) {m r : ℕ} → Made (numberIn w low high) t₀ t i → i < length t → m ≡ clamped low high b → r ≡ placeBy w m
@@ -108,11 +114,11 @@ module _ (w : Words) (t₀ t : List ℕ) (i : ℕ) {b : ℕ} (hb : b ≡ biasBy 
   easy-turn h l hr =
       made-turn 0 (w .mask) h l (clamp-none 0 (w .mask) b (rw hb (and-le-r (getD t i 0 / 2 ^ w .shift + w .half) (w .mask))) (omega arith)) hr
 
-  pub count-turn : {raised o : ℕ} → getD t i 0 ≡ getD t₀ i 0 → Counted (outsideOf w) t₀ i raised → (o ≡ raises (kindBy (w .low) (w .high) b)) × (o ≤ 1)
-      → Counted (outsideOf w) t₀ (i + 1) (raised + o)
+  pub count-turn : (low high : ℕ) {raised o : ℕ} → getD t i 0 ≡ getD t₀ i 0 → Counted (outsideIn w low high) t₀ i raised → (o ≡ raises (kindBy low high b)) × (o ≤ 1)
+      → Counted (outsideIn w low high) t₀ (i + 1) (raised + o)
   unfolding outsideBy
-  count-turn {raised} {o} same h k =
-      (sum-next (λ j. outsideOf w (getD t₀ j 0)) i raised o (h .0) (k .0 ∙ rw (hb, same)), omega (arith, h .1, k .1))
+  count-turn low high {raised} {o} same h k =
+      (sum-next (λ j. outsideIn w low high (getD t₀ j 0)) i raised o (h .0) (k .0 ∙ rw (hb, same)), omega (arith, h .1, k .1))
 
 -- ---- at the loop's end
 
@@ -124,10 +130,49 @@ module _ (w : Words) (t₀ t : List ℕ) {i count : ℕ} (end : i ≡ count) whe
   pub easy-end : w .low ≡ 0 → w .high ≡ w .mask → Made (numberIn w 0 (w .mask)) t₀ t i → (j : ℕ) → j < count → getD t j 0 ≡ makeBy w (getD t₀ j 0)
   easy-end low high h = made-end (rw (low, high) h)
 
-pub count-end : (w : Words) (t₀ : List ℕ) {i count raised : ℕ} → i ≡ count → Counted (outsideOf w) t₀ i raised
+pub count-end : (w : Words) (t₀ : List ℕ) {i count raised : ℕ} → i ≡ count → Counted (outsideIn w (w .low) (w .high)) t₀ i raised
     → (raised ≡ sumTo (λ j. countBy w (getD t₀ j 0)) count) × (raised ≤ count)
 unfolding outsideBy countBy
 count-end w t₀ end h = rw (← end) h
+
+-- where low is 0
+pub cap-end : (w : Words) (t₀ t : List ℕ) {i count raised : ℕ} → i ≡ count → w .low ≡ 0 → Made (numberIn w 0 (w .high)) t₀ t i → Counted (outsideIn w 0 (w .high)) t₀ i raised
+    → ((j : ℕ) → j < count → getD t j 0 ≡ makeBy w (getD t₀ j 0)) × (raised ≡ sumTo (λ j. countBy w (getD t₀ j 0)) count) × (raised ≤ count)
+cap-end w t₀ t {raised = raised} end low made counted =
+    let c = count-end w t₀ {raised = raised} end (rw low counted) in
+    (made-end w t₀ t end (rw low made), c .0, c .1)
+
+-- a biased number is below the mask
+pub bias-below : (w : Words) (x k : ℕ) {b : ℕ} → b ≡ biasBy w x → w .mask < k → b < k
+bias-below w x k e h = rw e (lt-of-le-of-lt (and-le-r (x / 2 ^ w .shift + w .half) (w .mask)) h)
+
+-- ---- words some of which are constants
+
+pub words-same : (w : Words) {shift mask half up ones : ℕ} → w .shift ≡ shift → w .mask ≡ mask → w .half ≡ half → w .up ≡ up → w .ones ≡ ones
+    → record {
+      «source_size» = w .«source_size»;
+      «source_order» = w .«source_order»;
+      shift = shift;
+      mask = mask;
+      half = half;
+      low = w .low;
+      high = w .high;
+      into = w .into;
+      up = up;
+      ones = ones;
+      keep = w .keep;
+      size = w .size;
+      order = w .order;
+    } ≡ w
+words-same w a b c d e = rw (← a, ← b, ← c, ← d, ← e)
+
+pub fits-as : {v w : Words} → v ≡ w → Fits 32 w → Fits 32 v
+fits-as e f = rw e f
+
+pub made-as : {v w : Words} → v ≡ w → (t₀ t : List ℕ) (count r : ℕ)
+    → ((i : ℕ) → i < count → getD t i 0 ≡ makeBy v (getD t₀ i 0)) × (r ≡ sumTo (λ i. countBy v (getD t₀ i 0)) count) × (r ≤ count)
+    → ((i : ℕ) → i < count → getD t i 0 ≡ makeBy w (getD t₀ i 0)) × (r ≡ sumTo (λ i. countBy w (getD t₀ i 0)) count) × (r ≤ count)
+made-as e t₀ t count r h = rw (← e) h
 
 -- ---- nothing is counted where each number is in range
 

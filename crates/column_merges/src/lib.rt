@@ -24,17 +24,13 @@ fn merge_each_32(
     requires { ⌜ (count ≤ length (now t)) × (size ≤ 4) × (byte + size ≤ «record_size») × (count * «record_size» ≤ length (now dst)) × ((i : ℕ) → i < count → getD (now t) i 0 + keep < 2 ^ 32) ⌝ }
     ensures { λ _. ⌜ now (dst .exit) ≡ eachRecord (λ i x. mergeIn order size byte keep (getD (now (t .entry)) i 0) x) «record_size» count (now (dst .entry)) ⌝ }
 {
+    let mut start: usize = 0;
     let mut i: usize = 0;
     while i < count {
-        let background = load(&dst[i * record_size..], ByteAt(byte), ByteAt(size), order);
+        let background = load(&dst[start..], ByteAt(byte), ByteAt(size), order);
         let c = t[i] as u64 + (background & keep as u64);
-        store(
-            &mut dst[i * record_size..],
-            ByteAt(byte),
-            ByteAt(size),
-            order,
-            c,
-        );
+        store(&mut dst[start..], ByteAt(byte), ByteAt(size), order, c);
+        start += record_size;
         i += 1;
     }
 }
@@ -149,17 +145,13 @@ fn merge_each_64(
     requires { ⌜ (count ≤ length (now t)) × (size ≤ 8) × (byte + size ≤ «record_size») × (count * «record_size» ≤ length (now dst)) × ((i : ℕ) → i < count → getD (now t) i 0 + keep < 2 ^ 64) ⌝ }
     ensures { λ _. ⌜ now (dst .exit) ≡ eachRecord (λ i x. mergeIn order size byte keep (getD (now (t .entry)) i 0) x) «record_size» count (now (dst .entry)) ⌝ }
 {
+    let mut start: usize = 0;
     let mut i: usize = 0;
     while i < count {
-        let background = load(&dst[i * record_size..], ByteAt(byte), ByteAt(size), order);
+        let background = load(&dst[start..], ByteAt(byte), ByteAt(size), order);
         let c = t[i] + (background & keep);
-        store(
-            &mut dst[i * record_size..],
-            ByteAt(byte),
-            ByteAt(size),
-            order,
-            c,
-        );
+        store(&mut dst[start..], ByteAt(byte), ByteAt(size), order, c);
+        start += record_size;
         i += 1;
     }
 }

@@ -21,15 +21,17 @@ fn store_each_32(
     requires { ⌜ (count ≤ length (now t)) × (size ≤ 4) × (byte + size ≤ «record_size») × (count * «record_size» ≤ length (now dst)) ⌝ }
     ensures { λ _. ⌜ now (dst .exit) ≡ eachRecord (λ i x. mergeIn order size byte 0 (getD (now (t .entry)) i 0) x) «record_size» count (now (dst .entry)) ⌝ }
 {
+    let mut start: usize = 0;
     let mut i: usize = 0;
     while i < count {
         store(
-            &mut dst[i * record_size..],
+            &mut dst[start..],
             ByteAt(byte),
             ByteAt(size),
             order,
             t[i] as u64,
         );
+        start += record_size;
         i += 1;
     }
 }

@@ -21,15 +21,11 @@ fn store_each_64(
     requires { ⌜ (count ≤ length (now t)) × (size ≤ 8) × (byte + size ≤ «record_size») × (count * «record_size» ≤ length (now dst)) ⌝ }
     ensures { λ _. ⌜ now (dst .exit) ≡ eachRecord (λ i x. mergeIn order size byte 0 (getD (now (t .entry)) i 0) x) «record_size» count (now (dst .entry)) ⌝ }
 {
+    let mut start: usize = 0;
     let mut i: usize = 0;
     while i < count {
-        store(
-            &mut dst[i * record_size..],
-            ByteAt(byte),
-            ByteAt(size),
-            order,
-            t[i],
-        );
+        store(&mut dst[start..], ByteAt(byte), ByteAt(size), order, t[i]);
+        start += record_size;
         i += 1;
     }
 }

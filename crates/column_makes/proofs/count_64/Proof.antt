@@ -21,7 +21,7 @@ returns c =
 loop-holds : tie.Need-loop-holds Inv-loop μ-loop
 loop-holds c =
     let a = c .before .before .before .args in
-    (omega arith, count-start (a .w) (a .t .now))
+    (omega arith, count-start (a .w) (a .w .low) (a .w .high) (a .t .now))
 
 bias-requires : tie.Need-bias-64-requires Inv-loop μ-loop
 bias-requires c κs = c .before .before .before .before .before .before .pre .1 .down
@@ -30,7 +30,7 @@ loop-again : tie.Need-loop-again Inv-loop μ-loop
 loop-again c =
     let l = c .before .before .before .before .loop in
     let a = c .before .before .before .before .before .before .before .before .args in
-    (omega arith, count-turn (a .w) (a .t .now) (a .t .now) (l .i) (c .before .bias-64 .ensures) refl (l .inv .1) (c .outside-64 .ensures))
+    (omega arith, count-turn (a .w) (a .t .now) (a .t .now) (l .i) (c .before .bias-64 .ensures) (a .w .low) (a .w .high) refl (l .inv .1) (c .outside-64 .ensures))
 
 returns-2 : tie.Need-returns-2 Inv-loop μ-loop
 returns-2 c =

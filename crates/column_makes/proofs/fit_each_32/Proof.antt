@@ -37,7 +37,7 @@ cast-high c = record { fits = c .before .before .before .before .before .before 
 loop-holds : tie.Need-loop-holds Inv-loop μ-loop
 loop-holds c =
     let a = c .before .before .before .before .before .before .before .args in
-    (omega arith, made-start (a .w) (a .w .low) (a .w .high) (a .t .now), count-start (a .w) (a .t .now))
+    (omega arith, made-start (a .w) (a .w .low) (a .w .high) (a .t .now), count-start (a .w) (a .w .low) (a .w .high) (a .t .now))
 
 bias-requires : tie.Need-bias-32-requires Inv-loop μ-loop
 bias-requires c κs = c .before .before .before .before .before .before .before .before .before .before .pre .1 .down
@@ -54,7 +54,7 @@ loop-again c =
     let b = c .before .before .before .bias-32 .ensures in (
       omega arith,
       made-turn (a .w) (a .t .now) (l .t) (l .i) b (a .w .low) (a .w .high) (l .inv .1) (omega arith) (c .before .clamp-32 .ensures) (c .place-32 .ensures),
-      count-turn (a .w) (a .t .now) (l .t) (l .i) b (l .inv .1 .2 (l .i) (omega arith)) (l .inv .2) (c .before .before .outside-32 .ensures),
+      count-turn (a .w) (a .t .now) (l .t) (l .i) b (a .w .low) (a .w .high) (l .inv .1 .2 (l .i) (omega arith)) (l .inv .2) (c .before .before .outside-32 .ensures),
     )
 
 same-length : tie.Need-same-length Inv-loop μ-loop

@@ -17,7 +17,7 @@ abbrev μ-loop : tie.MeasureT-loop
 loop-holds : tie.Need-loop-holds Inv-loop μ-loop
 loop-holds c =
     let a = c .before .args in
-    (omega arith, made-start (a .w) (a .w .low) (a .w .high) (a .t .now), count-start (a .w) (a .t .now))
+    (omega arith, made-start (a .w) (a .w .low) (a .w .high) (a .t .now), count-start (a .w) (a .w .low) (a .w .high) (a .t .now))
 
 bias-requires : tie.Need-bias-64-requires Inv-loop μ-loop
 bias-requires c κs = c .before .before .before .before .pre .1 .down
@@ -34,7 +34,7 @@ loop-again c =
     let b = c .before .before .before .bias-64 .ensures in (
       omega arith,
       made-turn (a .w) (a .t .now) (l .t) (l .i) b (a .w .low) (a .w .high) (l .inv .1) (omega arith) (c .before .clamp-64 .ensures) (c .place-64 .ensures),
-      count-turn (a .w) (a .t .now) (l .t) (l .i) b (l .inv .1 .2 (l .i) (omega arith)) (l .inv .2) (c .before .before .outside-64 .ensures),
+      count-turn (a .w) (a .t .now) (l .t) (l .i) b (a .w .low) (a .w .high) (l .inv .1 .2 (l .i) (omega arith)) (l .inv .2) (c .before .before .outside-64 .ensures),
     )
 
 same-length : tie.Need-same-length Inv-loop μ-loop

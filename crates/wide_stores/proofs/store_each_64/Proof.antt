@@ -1,22 +1,23 @@
--- `wide_stores::store_each_64` meets its contract. The loop's invariant: the first i records are written. Assumes nothing.
+-- `wide_stores::store_each_64` meets its contract. The loop's invariant: the first i records are written, and record i begins at start. Assumes nothing.
 use mathlib.Core.Path.{_≡_, refl, _∙_}
 use Prim.Native.Nat.{_+_, _*_, _≤_, _-_}
 use native.Mathlib.Omega.{arith}
 use lib.ListN.{length}
 use Rattle.easy.proofs.Lent.{lent-room, lent-length}
 use Rattle.loops.proofs.Lists.{row-within}
-use Rattle.blocks.proofs.Turns.{merged, each-start, store-turn}
+use Rattle.blocks.proofs.Turns.{merged, each-start}
+use Rattle.column_merges.proofs.Starts.{next-start, store-start}
 use Rattle.wide_stores.proofs.store_each_64.Statement.{statement}
 use Rattle.wide_stores.proofs.store_each_64.Tie as tie
 
 abbrev Inv-loop : tie.InvT-loop
-Inv-loop dst₀ byte count d size order t i₀ dst i = (i ≤ count) × (length dst ≡ length dst₀) × (dst ≡ merged order size byte 0 t d i dst₀)
+Inv-loop dst₀ byte count d size order t start₀ i₀ dst start i = (i ≤ count) × (start ≡ i * d) × (length dst ≡ length dst₀) × (dst ≡ merged order size byte 0 t d i dst₀)
 
 abbrev μ-loop : tie.MeasureT-loop
-μ-loop dst₀ byte count d size order t i₀ dst i = count - i
+μ-loop dst₀ byte count d size order t start₀ i₀ dst start i = count - i
 
 loop-holds : tie.Need-loop-holds Inv-loop μ-loop
-loop-holds c = (omega arith, refl, each-start _ _ _)
+loop-holds c = (omega arith, omega arith, refl, each-start _ _ _)
 
 -- record i lies within
 row : (c : tie.In-loop Inv-loop μ-loop) → (let a = c .before .before .before .before .args in c .before .loop .i * a .record-size + a .record-size ≤ a .count * a .record-size)
@@ -27,7 +28,7 @@ store-requires c κs =
     let t = c .before .before in
     let a = t .before .before .before .before .args in
     let l = t .before .loop in
-    (omega arith, lent-room (l .i * a .record-size) (a .byte + a .size) (l .dst) (omega (arith, row t)))
+    (omega arith, lent-room (l .start) (a .byte + a .size) (l .dst) (omega (arith, l .inv .1, l .inv .2, row t)))
 
 loop-again : tie.Need-loop-again Inv-loop μ-loop
 loop-again c =
@@ -35,17 +36,18 @@ loop-again c =
     let t = call .before .before .before in
     let l = t .before .loop in
     let a = t .before .before .before .before .args in
-    let low : l .i * a .record-size + a .record-size ≤ length (l .dst) = omega (arith, row t) in (
+    let low : l .i * a .record-size + a .record-size ≤ length (l .dst) = omega (arith, l .inv .2, row t) in (
       omega arith,
-      lent-length (l .i * a .record-size) (l .dst) (call .store .last .0) (omega arith) (call .store .kept .0) ∙ l .inv .1,
-      store-turn (a .order) (a .size) (a .byte) 0 (a .t .now) (a .record-size) (l .i) (l .dst) low (omega arith) (a .dst .now) (call .store .last .0) refl (l .inv .2) (call .store .ensures),
+      next-start (l .i) (a .record-size) (l .inv .1),
+      lent-length (l .start) (l .dst) (call .store .last .0) (omega (arith, l .inv .1)) (call .store .kept .0) ∙ l .inv .2,
+      store-start (a .order) (a .size) (a .byte) 0 (a .t .now) (a .record-size) (l .i) (l .dst) low (omega arith) (l .inv .1) (a .dst .now) (call .store .last .0) refl (l .inv .3) (call .store .ensures),
     )
 
 returns : tie.Need-returns Inv-loop μ-loop
 returns c =
     let l = c .before .loop in
     let end : l .i ≡ c .before .before .before .before .args .count = omega arith in
-    rw end at (l .inv .2)
+    rw end at (l .inv .3)
 
 pub store-each-64-spec : {M : Type 1} → statement M
 store-each-64-spec =
@@ -54,15 +56,15 @@ store-each-64-spec =
     Inv-loop
     μ-loop
     loop-holds
-    (λ c. omega (arith, row c))
-    (λ c. omega (arith, row c))
-    (λ c. omega (arith, row c))
-    (λ c. omega (arith, row c))
+    (λ c. omega (arith, c .before .loop .inv .1, c .before .loop .inv .2, row c))
+    (λ c. omega (arith, c .before .loop .inv .1, c .before .loop .inv .2, row c))
+    (λ c. omega (arith, c .before .loop .inv .1, c .before .loop .inv .2, row c))
     (λ c. omega arith)
     (λ c. omega arith)
     store-requires
+    (λ c. let t = c .before .before .before .before .before in omega (arith, t .before .loop .inv .1, t .before .loop .inv .2, row t))
     (λ c. omega arith)
     (λ c. omega arith)
     loop-again
-    (λ c. c .before .loop .inv .1)
+    (λ c. c .before .loop .inv .2)
     returns)
