@@ -8,7 +8,7 @@ use Rattle.column_words.specs.declared.Words.{Words}
 use Rattle.column_words.specs.Words.{makeBy, countBy, Fits}
 use Rattle.column_words.proofs.Made.{make-room}
 use Rattle.blocks.specs.Blocks.{sumTo, eachRecord, containerIn, mergeIn, eachMade, raisedMade}
-use Rattle.column_makes.proofs.Making.{none-outside}
+use Rattle.column_steps.proofs.Making.{none-outside}
 use Rattle.blocks.proofs.Columns.{each-same, sum-same}
 
 module _ (w : Words) (k : ℕ) (t : List ℕ) where

@@ -13,7 +13,7 @@ use Rattle.column_words.specs.Words.{Fits}
 use Rattle.blocks.specs.Blocks.{sumTo}
 use Rattle.blocks.proofs.Turns.{set-below, set-ahead, sum-start, sum-next}
 use Rattle.blocks.proofs.Columns.{sum-same}
-use Rattle.column_makes.proofs.Making.{Made, Counted}
+use Rattle.column_steps.proofs.Making.{Made, Counted}
 
 pub some-raised : (kind : ℕ) → (kind ≡ 0 → ⊥) → (1 ≡ raises kind) × (1 ≤ 1)
 some-raised zero h = absurd (h refl)

@@ -21,7 +21,7 @@ use Rattle.real_numbers.proofs.Cutting.{small-cut, right-cut}
 use Rattle.real_numbers.proofs.Converted.{whole-int}
 use Rattle.records.specs.Record.{raises}
 use Rattle.column_words.specs.Fit.{halfOf, mostOf}
-use Rattle.column_makes.proofs.Making.{bias-is}
+use Rattle.column_steps.proofs.Making.{bias-is}
 use Rattle.real_columns.specs.Near.{significandOf, belowOf, wholeNear, partNear, limitOf, signedIn, raisedNear}
 
 -- ---- the small functions

@@ -18,7 +18,7 @@ use Rattle.column_words.specs.declared.Words.{Words}
 use Rattle.column_words.specs.Fit.{clamped}
 use Rattle.column_words.specs.Words.{biasBy, placeBy, makeBy}
 use Rattle.column_words.proofs.Made.{wrapped, unwrapped}
-use Rattle.column_makes.proofs.Making.{clamp-none}
+use Rattle.column_steps.proofs.Making.{clamp-none}
 use Rattle.blocks.specs.Blocks.{eachRecord, containerIn, mergeIn, eachMade}
 use Rattle.blocks.proofs.Turns.{each-start, each-next}
 use Rattle.blocks.proofs.Columns.{each-same}

@@ -13,7 +13,7 @@ returns c =
 returns-2 : tie.Need-returns-2
 returns-2 c =
     let e : c .before .before .before .before .before .before .before .args .size ≡ 2 = search needs in
-    rw e (c .before .before .load-turned-32 .ensures)
+    rw e (c .before .before .load-then-turn-32 .ensures)
 
 returns-3 : tie.Need-returns-3
 returns-3 c =

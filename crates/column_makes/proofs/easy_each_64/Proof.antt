@@ -2,7 +2,7 @@
 use mathlib.Core.Path.{_≡_}
 use Prim.Native.Nat.{_-_, _≤_}
 use native.Mathlib.Omega.{arith}
-use Rattle.column_makes.proofs.Making.{numberBy, Made, has-place, made-start, easy-turn, easy-end}
+use Rattle.column_steps.proofs.Making.{numberBy, Made, has-place, made-start, easy-turn, easy-end}
 use Rattle.column_makes.proofs.easy_each_64.Statement.{statement}
 use Rattle.column_makes.proofs.easy_each_64.Tie as tie
 

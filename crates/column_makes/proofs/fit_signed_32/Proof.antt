@@ -1,7 +1,7 @@
 -- `column_makes::fit_signed_32` meets its contract. Assumes nothing.
 use mathlib.Core.Path.{_≡_, refl}
 use borrow.Author.Needs.{needs}
-use Rattle.column_makes.proofs.Making.{words-same, made-as}
+use Rattle.column_steps.proofs.Making.{words-same, made-as}
 use Rattle.column_makes.proofs.fit_signed_32.Statement.{statement}
 use Rattle.column_makes.proofs.fit_signed_32.Tie as tie
 

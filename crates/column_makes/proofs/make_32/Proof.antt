@@ -1,7 +1,7 @@
 -- `column_makes::make_32` meets its contract. Assumes nothing.
 use native.Mathlib.Omega.{arith}
 use borrow.Author.Needs.{needs}
-use Rattle.column_makes.proofs.Making.{none-outside}
+use Rattle.column_steps.proofs.Making.{none-outside}
 use Rattle.column_makes.proofs.make_32.Statement.{statement}
 use Rattle.column_makes.proofs.make_32.Tie as tie
 

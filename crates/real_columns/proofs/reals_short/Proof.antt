@@ -3,7 +3,7 @@ use mathlib.Core.Path.{ap, _∙_}
 use Prim.Native.Nat.{ℕ, _+_, _-_, _*_, _/_, _^_, _≤_}
 use native.Mathlib.Omega.{arith}
 use lib.Bits.{bitAnd}
-use Rattle.column_makes.proofs.Making.{Made}
+use Rattle.column_steps.proofs.Making.{Made}
 use Rattle.real_columns.specs.Short.{shortReal}
 use Rattle.real_columns.proofs.Making.{place-fits, made-start, made-next}
 use Rattle.real_columns.proofs.reals_short.Statement.{statement}
