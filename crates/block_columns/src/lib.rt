@@ -9,6 +9,7 @@ ghost use Rattle.blocks.specs.Blocks.{eachOf, raisedOver};
 ghost use Rattle.symbol_slots.specs.Tables.{TablesKept, Columned};
 use entry_columns::entry_column;
 use entry_columns::entry_raised;
+use piece_moves::block_step;
 use plan_words::entry;
 
 // Words of the slots of a call.
@@ -36,22 +37,38 @@ pub fn block(
     let mut raised: u64 = 0;
     let mut i: usize = 0;
     while i < entries {
-        let e = entry(plan, i);
-        raised += entry_column(
+        let moved = block_step(
             src,
             dst,
             count,
             source_size,
             destination_size,
-            e,
+            plan,
+            i,
+            entries,
             source_half,
             destination_half,
-            slots,
-            narrow,
-            wide,
-            tables,
         );
-        i += 1;
+        if moved == 0 {
+            let e = entry(plan, i);
+            raised += entry_column(
+                src,
+                dst,
+                count,
+                source_size,
+                destination_size,
+                e,
+                source_half,
+                destination_half,
+                slots,
+                narrow,
+                wide,
+                tables,
+            );
+            i += 1;
+        } else {
+            i += moved;
+        }
     }
     raised
 }
