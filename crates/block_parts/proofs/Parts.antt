@@ -2,10 +2,12 @@
 use mathlib.Core.Path.{_≡_, refl, sym, ap, subst, _∙_}
 use mathlib.Core.List.{List, [], _∷_, _++_}
 use Prim.Native.Nat.{ℕ, zero, suc, _+_, _*_, _≤_, _<_}
-use native.Mathlib.Nat.{suc-mul, zero-mul, mul-zero, mul-assoc, mul-le-mul-right, le-of-eq, le-refl, le-trans}
+use native.Mathlib.Nat.{suc-mul, zero-mul, mul-assoc, mul-le-mul-right, le-of-eq, le-refl, le-trans}
 use native.Mathlib.Omega.{arith}
 use lib.ListN.{length, drop, length-drop, drop-of-length-le}
 use Rattle.layout.specs.declared.Layout.{Layout}
+use Rattle.datatype.specs.Datatype.{Leaf}
+use Rattle.table.specs.Table.{layoutAt, leafOfType}
 use Rattle.records.specs.Records.{recordAt}
 use Rattle.records.specs.Plan.{Entry, written, raisedBy, Sound, AllSound}
 use Rattle.plans.specs.PlanWords.{toByte, fromByte, sourceType, destinationType, entryAt, entriesFrom, entriesAt, Ready, entriesOf}
@@ -15,7 +17,7 @@ use Rattle.loops.proofs.Lists.{row-within}
 use Rattle.blocks.specs.Blocks.{eachRecord, eachOf, sumTo, raisedOver}
 use Rattle.blocks.proofs.Columns.{by-records, record-of, record-shift, record-room, Keeps, each-length, each-at, written-length, columns-written, columns-behind, columns-length, columns-raised, sum-same}
 use Rattle.symbol_slots.specs.Tables.{TablesKept, Columned}
-use Rattle.block_parts.specs.Parts.{InParts}
+use Rattle.block_parts.specs.Parts.{SameWords, InParts}
 use Rattle.block_parts.proofs.Shifts.{moved, movedAll, shifted-written, shifted-raised}
 
 -- ---- lists of entries
@@ -78,11 +80,28 @@ steps f e b n g (suc q) i h =
     let z : i + suc q * e ≡ i + q * e + e = omega arith in
     rw z (omega (arith, g (i + q * e) (omega arith), steps f e b n g q i (omega arith)))
 
-alike : (f : ℕ → ℕ) (e n : ℕ) → ((i : ℕ) → i + e < n → f (i + e) ≡ f i) → (q i : ℕ) → i + q * e < n → f (i + q * e) ≡ f i
-alike f e n g q i h = rw mul-zero at (steps f e 0 n (λ j l. rw (g j l) (omega arith)) q i h) ∙ plus-none (f i)
-  where
-    plus-none : (x : ℕ) → x + 0 ≡ x
-    plus-none x = omega arith
+alike : (f : ℕ → Leaf) (e n : ℕ) → ((i : ℕ) → i + e < n → f (i + e) ≡ f i) → (q i : ℕ) → i + q * e < n → f (i + q * e) ≡ f i
+alike f e n g zero i h = let z : i + zero * e ≡ i = rw zero-mul (omega arith) in ap f z
+alike f e n g (suc q) i h =
+    let z : i + suc q * e ≡ i + q * e + e = rw suc-mul (omega arith) in
+    ap f z ∙ g (i + q * e) (rw z at h) ∙ alike f e n g q i (omega (arith, rw z at h))
+
+-- types that have the same words are the same leaf
+leaf-same : (w t : List ℕ) (x y : ℕ) → SameWords w x y → leafOfType w t x ≡ leafOfType w t y
+unfolding leafOfType layoutAt
+leaf-same w t x y h =
+    rw (
+      h 0 (omega arith),
+      h 1 (omega arith),
+      h 2 (omega arith),
+      h 3 (omega arith),
+      h 4 (omega arith),
+      h 5 (omega arith),
+      h 6 (omega arith),
+      h 7 (omega arith),
+      h 9 (omega arith),
+      h 10 (omega arith),
+    )
 
 -- ---- the entries of part q are those of the first, moved
 
@@ -99,8 +118,8 @@ module _ {m a b e s d : ℕ} {plan : List ℕ} {n : ℕ} {ws wd : List ℕ} (par
         rw (
           steps (toByte plan) e b n (parts .to) q i h,
           steps (fromByte plan) e a n (parts .from) q i h,
-          alike (sourceType plan) e n (parts .sources) q i h,
-          alike (destinationType plan) e n (parts .destinations) q i h,
+          alike (λ j. leafOfType ws ts (sourceType plan j)) e n (λ j l. leaf-same ws ts (sourceType plan (j + e)) (sourceType plan j) (parts .sources j l)) q i h,
+          alike (λ j. leafOfType wd td (destinationType plan j)) e n (λ j l. leaf-same wd td (destinationType plan (j + e)) (destinationType plan j) (parts .destinations j l)) q i h,
         )
 
     entries-moved : (q : ℕ) → q < m → (k j : ℕ) → j + k ≤ e → entriesFrom plan ws ts wd td (j + q * e) k ≡ movedAll (q * b) (q * a) (entriesFrom plan ws ts wd td j k)

@@ -11,14 +11,14 @@ use Rattle.plans.specs.declared.PlanEntry.{PlanEntry}
 use Rattle.plans.specs.PlanWords.{Ready}
 use Rattle.plans.specs.PlanEntries.{wordsAt}
 use Rattle.plans.proofs.Entries.{entry-ready}
-use Rattle.block_parts.specs.Parts.{InParts}
+use Rattle.block_parts.specs.Parts.{SameWords, InParts}
 use Rattle.plan_parts.specs.Again.{Again, Lies, Repeats, AllLie}
 
 -- ---- one entry
 
-pub again-is : (plan : List ℕ) (e a b i : ℕ) {x y : PlanEntry} → x ≡ wordsAt plan i → y ≡ wordsAt plan (i + e) → y .to ≡ x .to + b → y .from ≡ x .from + a → y .source ≡ x .source
-    → y .destination ≡ x .destination → Again plan e a b i
-again-is plan e a b i ex ey to from source destination =
+pub again-is : (plan : List ℕ) (e a b : ℕ) (ws wd : List ℕ) (i : ℕ) {x y : PlanEntry} → x ≡ wordsAt plan i → y ≡ wordsAt plan (i + e) → y .to ≡ x .to + b → y .from ≡ x .from + a
+    → SameWords ws (y .source) (x .source) → SameWords wd (y .destination) (x .destination) → Again plan e a b ws wd i
+again-is plan e a b ws wd i ex ey to from source destination =
     record { to = rw (ex, ey) at to; from = rw (ex, ey) at from; source = rw (ex, ey) at source; destination = rw (ex, ey) at destination }
 
 pub lies-is : (plan : List ℕ) (a b : ℕ) (ws wd : List ℕ) (i : ℕ) {x : PlanEntry} {s d : ℕ} → x ≡ wordsAt plan i → s ≡ typeWord ws (x .source) 1 → d ≡ typeWord wd (x .destination) 1
@@ -45,7 +45,7 @@ parts-some n e some h most = (le-div-iff-mul-le {k = e} {x = 1} {y = n} some .1 
 -- ---- a plan that repeats, and one that does not
 
 pub parts-are : (m s d : ℕ) (plan : List ℕ) (n : ℕ) (ws wd : List ℕ) → 1 ≤ m → m ≤ 4096 → (s ≡ m * (s / m)) × (d ≡ m * (d / m)) × (n ≡ m * (n / m))
-    → Repeats plan (n / m) (s / m) (d / m) n → AllLie plan (s / m) (d / m) ws wd (n / m) → InParts m (s / m) (d / m) (n / m) s d plan n ws wd
+    → Repeats plan (n / m) (s / m) (d / m) ws wd n → AllLie plan (s / m) (d / m) ws wd (n / m) → InParts m (s / m) (d / m) (n / m) s d plan n ws wd
 parts-are m s d plan n ws wd some few whole again lie =
     record {
       some = some;

@@ -5,10 +5,11 @@ ghost use mathlib.Core.List.{List};
 ghost use Prim.Native.Nat.{ℕ, _+_, _*_, _/_, _≤_};
 ghost use lib.ListN.{length};
 ghost use Rattle.plans.specs.PlanWords.{Ready};
-ghost use Rattle.block_parts.specs.Parts.{InParts};
+ghost use Rattle.block_parts.specs.Parts.{SameWords, InParts};
 ghost use Rattle.plan_parts.specs.Again.{Again, Lies, Repeats, AllLie};
 use plan_words::entry;
 use table::SIZE;
+use table::TYPE_WORDS;
 use table::read::type_word;
 
 // Whether y is x and so much more.
@@ -31,6 +32,24 @@ fn lies_within(byte: usize, size: usize, part: usize) -> bool
     byte <= part - size
 }
 
+// Whether two types have the same words: a sheet may say one type under two numbers.
+fn is_same_type(half: &[u32], x: usize, y: usize) -> bool
+    ensures { λ r. ⌜ (r ≡ true → SameWords (now (half .entry)) x y) ⌝ }
+{
+    if x == y {
+        return true;
+    }
+    let mut k: usize = 0;
+    while k < TYPE_WORDS {
+        if type_word(half, x, k) == type_word(half, y, k) {
+            k += 1;
+        } else {
+            return false;
+        }
+    }
+    true
+}
+
 // Whether entry i comes again, as far behind it as a part has entries, in the next part of both records.
 fn comes_again(
     plan: &[u32],
@@ -38,16 +57,18 @@ fn comes_again(
     part_entries: usize,
     source_part: usize,
     destination_part: usize,
+    source_half: &[u32],
+    destination_half: &[u32],
 ) -> bool
     requires { ⌜ 2 * (i + «part_entries») + 2 ≤ length (now plan) ⌝ }
-    ensures { λ r. ⌜ (r ≡ true → Again (now (plan .entry)) «part_entries» «source_part» «destination_part» i) ⌝ }
+    ensures { λ r. ⌜ (r ≡ true → Again (now (plan .entry)) «part_entries» «source_part» «destination_part» (now («source_half» .entry)) (now («destination_half» .entry)) i) ⌝ }
 {
     let x = entry(plan, i);
     let y = entry(plan, i + part_entries);
     if is_after(y.to, x.to, destination_part) {
         if is_after(y.from, x.from, source_part) {
-            if y.source == x.source {
-                return y.destination == x.destination;
+            if is_same_type(source_half, y.source, x.source) {
+                return is_same_type(destination_half, y.destination, x.destination);
             }
         }
     }
@@ -60,13 +81,23 @@ fn all_come_again(
     part_entries: usize,
     source_part: usize,
     destination_part: usize,
+    source_half: &[u32],
+    destination_half: &[u32],
 ) -> bool
     requires { ⌜ (2 * entries ≤ length (now plan)) × (entries ≤ 4096) × («part_entries» ≤ entries) ⌝ }
-    ensures { λ r. ⌜ (r ≡ true → Repeats (now (plan .entry)) «part_entries» «source_part» «destination_part» entries) ⌝ }
+    ensures { λ r. ⌜ (r ≡ true → Repeats (now (plan .entry)) «part_entries» «source_part» «destination_part» (now («source_half» .entry)) (now («destination_half» .entry)) entries) ⌝ }
 {
     let mut i: usize = 0;
     while i + part_entries < entries {
-        if comes_again(plan, i, part_entries, source_part, destination_part) {
+        if comes_again(
+            plan,
+            i,
+            part_entries,
+            source_part,
+            destination_part,
+            source_half,
+            destination_half,
+        ) {
             i += 1;
         } else {
             return false;
@@ -155,7 +186,7 @@ fn are_parts(
         let e = entries / parts;
         let a = source_size / parts;
         let b = destination_size / parts;
-        if all_come_again(plan, entries, e, a, b) {
+        if all_come_again(plan, entries, e, a, b, source_half, destination_half) {
             return all_lie_in_part(plan, e, a, b, source_half, destination_half);
         }
     }

@@ -9,16 +9,16 @@ use Rattle.plan_parts.proofs.all_come_again.Statement.{statement}
 use Rattle.plan_parts.proofs.all_come_again.Tie as tie
 
 abbrev Inv-loop : tie.InvT-loop
-Inv-loop plan n e a b i₀ i = (i + e ≤ n) × ((j : ℕ) → j < i → Again plan e a b j)
+Inv-loop plan n e a b ws wd i₀ i = (i + e ≤ n) × ((j : ℕ) → j < i → Again plan e a b ws wd j)
 
 abbrev μ-loop : tie.MeasureT-loop
-μ-loop plan n e a b i₀ i = n - i
+μ-loop plan n e a b ws wd i₀ i = n - i
 
 loop-again : tie.Need-loop-again Inv-loop μ-loop
 loop-again c =
-    let a = c .before .before .before .before .before .args in
+    let a = c .before .before .before .before .before .before .before .args in
     let l = c .before .before .before .loop in
-    (omega (arith, c .before .before .loop-test .taken), one-more (λ j. Again (a .plan .now) (a .part-entries) (a .source-part) (a .destination-part) j) (l .i) (l .inv .1) (c .before .comes-again .ensures (c .if1 .taken)))
+    (omega (arith, c .before .before .loop-test .taken), one-more (λ j. Again (a .plan .now) (a .part-entries) (a .source-part) (a .destination-part) (a .source-half .now) (a .destination-half .now) j) (l .i) (l .inv .1) (c .before .comes-again .ensures (c .if1 .taken)))
 
 pub all-come-again-spec : {M : Type 1} → statement M
 all-come-again-spec =
