@@ -188,18 +188,3 @@ pub fn run_of(
         destination_half,
     )
 }
-
-// Whether the leaf of any entry stays as it is. Where none does, a search for runs, block by block, is time lost.
-pub fn has_run(plan: &[u32], entries: usize, source_half: &[u32], destination_half: &[u32]) -> bool
-    requires { ⌜ (2 * entries ≤ length (now plan)) × (entries ≤ 4096) ⌝ }
-{
-    let mut i: usize = 0;
-    while i < entries {
-        let e = entry(plan, i);
-        if 0 < same_bytes(source_half, e.source, destination_half, e.destination) {
-            return true;
-        }
-        i += 1;
-    }
-    false
-}
