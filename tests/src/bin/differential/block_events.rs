@@ -1,7 +1,10 @@
 //! Notes what conversions in blocks have met.
 
-use crate::blocks::{FEWEST, Unit};
+use crate::block_piece_events;
+use crate::block_symbol_events;
+use crate::blocks::{FEWEST, REPORTED, STOPS, Unit};
 use crate::convert::with_types;
+use crate::report_run::{ReportRun, ReportSeen};
 use crate::run::{FORMS, Run, Seen};
 use crate::tally::Tally;
 use independent::call::part;
@@ -51,12 +54,31 @@ const IN_PLACE: [&str; 4] = [
     "8 records of more than 512 bytes",
 ];
 
+/// The sorts of cases.
+const CASES: [&str; 6] = [
+    "conversion in blocks",
+    "enums in blocks",
+    "leaves that stay, in blocks",
+    "equal parts in blocks",
+    "STOP in blocks",
+    "report in blocks",
+];
+
 /// What a whole run must have met.
 pub fn needed() -> Vec<String> {
-    let mut needed = vec![
-        "case: conversion in blocks".to_string(),
-        "blocks, report: several".to_string(),
-    ];
+    let mut needed: Vec<String> = CASES.iter().map(|case| format!("case: {case}")).collect();
+    needed.push(named("report", "several"));
+    for count in REPORTED {
+        for size in 1..=8 {
+            for signed in [false, true] {
+                needed.push(named("report", &clamped_int(count, size, signed)));
+            }
+        }
+    }
+    let enums = block_symbol_events::each();
+    let enums: Vec<&str> = enums.iter().map(String::as_str).collect();
+    let stops: Vec<String> = STOPS.iter().map(|at| stop_at(*at)).collect();
+    let stops: Vec<&str> = stops.iter().map(String::as_str).collect();
     for form in FORMS {
         let mut add = |events: &[&str]| {
             for event in events {
@@ -64,8 +86,13 @@ pub fn needed() -> Vec<String> {
             }
         };
         add(&EACH);
+        add(&enums);
+        add(&block_piece_events::EACH);
         if !form.is_plain() {
             add(&STOPPING);
+            add(&stops);
+            add(&block_symbol_events::STOPPING);
+            add(&block_piece_events::STOPPING);
         }
         if !form.is_copying() {
             add(&IN_PLACE);
@@ -78,6 +105,46 @@ fn named(form: &str, event: &str) -> String {
     format!("blocks, {form}: {event}")
 }
 
+/// A STOP at such a record of a block of 256.
+fn stop_at(record: u64) -> String {
+    format!("STOP at record {record} of a block of 256")
+}
+
+/// A report of so many records, with such an int that is clamped.
+fn clamped_int(count: u64, size: u64, signed: bool) -> String {
+    let sign = if signed { "signed" } else { "unsigned" };
+    format!("{count} records, an int of {size} bytes, {sign}, clamped")
+}
+
+/// Notes which ints a report has clamped.
+pub fn note_report(tally: &mut Tally, run: &ReportRun, seen: &ReportSeen) {
+    if !seen.is_done() || !REPORTED.contains(&run.count) {
+        return;
+    }
+    with_types(&run.source_sheet, &run.reader_sheet, |from, _, matches| {
+        for pair in matches {
+            let Datatype::Int(layout) = pair.from.datatype else {
+                continue;
+            };
+            let raises = |record| is_clamped(&run.log, record, from.size(), pair);
+            if (0..run.count).any(raises) {
+                let event = clamped_int(run.count, layout.size, layout.signed);
+                tally.saw(&named("report", &event));
+            }
+        }
+    });
+}
+
+/// Whether a leaf raises an exception in a source record.
+fn is_clamped(log: &[u8], record: u64, size: u64, pair: &Match) -> bool {
+    let layout = number::layout(pair.from.datatype);
+    let bytes = &part(log, record, size)[pair.from.at as usize..];
+    let found = number::read(layout, bytes);
+    number::convert(pair.from.datatype, pair.to.datatype, found)
+        .1
+        .is_some()
+}
+
 pub fn note(tally: &mut Tally, run: &Run, seen: &Seen) {
     let [number, count, _, record, at, ..] = seen.answer;
     let sheets = (&run.source_sheet, &run.destination_sheet);
@@ -87,8 +154,16 @@ pub fn note(tally: &mut Tally, run: &Run, seen: &Seen) {
         }
     };
     with_types(sheets.0, sheets.1, |from, to, matches| match number {
-        0 => note_done(&mut saw, run, count, (from, to), matches),
-        8 => note_stop(&mut saw, run.count, (record, at), (from, to), matches),
+        0 => {
+            note_done(&mut saw, run, count, (from, to), matches);
+            block_symbol_events::note_done(&mut saw, run, (from, to), matches);
+            block_piece_events::note_done(&mut saw, run, seen, (from, to), matches);
+        }
+        8 => {
+            note_stop(&mut saw, run.count, (record, at), (from, to), matches);
+            block_symbol_events::note_stop(&mut saw, (record, at), (from, to), matches);
+            block_piece_events::note_stop(&mut saw, record, (from, to), matches);
+        }
         _ => {}
     });
 }
@@ -147,14 +222,7 @@ fn note_leaves(
     (from, to): (&Datatype, &Datatype),
     matches: &[Match],
 ) {
-    let clamped = |pair: &Match, record: u64| {
-        let layout = number::layout(pair.from.datatype);
-        let bytes = &part(&run.first, record, from.size())[pair.from.at as usize..];
-        let found = number::read(layout, bytes);
-        number::convert(pair.from.datatype, pair.to.datatype, found)
-            .1
-            .is_some()
-    };
+    let clamped = |pair: &Match, record: u64| is_clamped(&run.first, record, from.size(), pair);
     let is = |test: fn(&Datatype) -> bool| {
         let either = |pair: &Match| test(pair.from.datatype) || test(pair.to.datatype);
         matches.iter().any(either)
@@ -225,6 +293,9 @@ fn note_stop(
             "STOP at the last record of one",
         );
         saw(record >= rest(count, block), "STOP in the rest");
+        let within = record % block;
+        let full = block == 256 && record - within + block <= count;
+        saw(full && STOPS.contains(&within), &stop_at(within));
     }
     if element.each > 1 {
         let leaf = matches.iter().position(|pair| pair.to.at == at);

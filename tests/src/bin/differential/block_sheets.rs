@@ -20,7 +20,7 @@ pub fn sheets(random: &mut Random) -> (Model, Model) {
 }
 
 /// Any layout, often one of a machine's numbers, which has no pads.
-fn layout(random: &mut Random) -> Atomic {
+pub fn layout(random: &mut Random) -> Atomic {
     let layout = atomic(random, 8);
     if random.percent(50) {
         return layout;
@@ -35,7 +35,7 @@ fn layout(random: &mut Random) -> Atomic {
 }
 
 /// Two ints or two bits, of one layout, of one but for a word, or of any.
-fn numbers(random: &mut Random, from: &mut Model, to: &mut Model) -> (usize, usize) {
+pub fn numbers(random: &mut Random, from: &mut Model, to: &mut Model) -> (usize, usize) {
     let (own, new) = (layout(random), layout(random));
     let other = match random.below(10) {
         0 => own,
@@ -54,6 +54,21 @@ fn numbers(random: &mut Random, from: &mut Model, to: &mut Model) -> (usize, usi
     } else {
         (from.push(Line::Int(own)), to.push(Line::Int(other)))
     }
+}
+
+/// Two ints, the second mostly of fewer bits, and of at most 32.
+pub fn narrowed(random: &mut Random, from: &mut Model, to: &mut Model) -> (usize, usize) {
+    let any = layout(random);
+    let size = random.between(1, 8);
+    let own = Atomic {
+        size,
+        offset: 0,
+        precision: 8 * size,
+        ..any
+    };
+    let own = if random.percent(75) { own } else { any };
+    let other = atomic(random, own.size.min(4));
+    (from.push(Line::Int(own)), to.push(Line::Int(other)))
 }
 
 /// Two leaves of any class.
@@ -88,7 +103,7 @@ fn compounds(random: &mut Random, from: &mut Model, to: &mut Model) -> (usize, u
     )
 }
 
-fn row(name: &[u8], datatype: usize) -> Row {
+pub fn row(name: &[u8], datatype: usize) -> Row {
     Row {
         name: name.to_vec(),
         at: 0,
@@ -134,7 +149,7 @@ fn even_members(random: &mut Random) -> (Model, Model) {
 }
 
 /// An array that fills the record, alone or as the only member.
-fn array(
+pub fn array(
     random: &mut Random,
     element: fn(&mut Random, &mut Model, &mut Model) -> (usize, usize),
 ) -> (Model, Model) {

@@ -1,10 +1,16 @@
 //! Cases of so many records that the library converts them in blocks.
 
+use crate::block_enums;
 use crate::block_events;
+use crate::block_pieces;
 use crate::block_sheets;
 use crate::convert::{resize, with_types};
+use crate::generate::paired;
+use crate::model::Model;
 use crate::random::Random;
 use crate::records::{fitting, put, records};
+use crate::report_events;
+use crate::report_run;
 use crate::reports;
 use crate::run::{self, FORMS, Form, Run};
 use crate::stops::raising;
@@ -92,16 +98,56 @@ pub fn case(random: &mut Random, tally: &mut Tally) -> Result<(), String> {
         let to = reports::reader_of(random, 0, &to);
         return report(random, tally, from.text(), to.text());
     }
+    conversion(random, tally, (from, to))
+}
+
+/// Enums that lie close or far apart.
+pub fn enum_case(random: &mut Random, tally: &mut Tally) -> Result<(), String> {
+    let sheets = block_enums::sheets(random);
+    conversion(random, tally, sheets)
+}
+
+/// Leaves that stay as they are.
+pub fn staying_case(random: &mut Random, tally: &mut Tally) -> Result<(), String> {
+    let sheets = block_pieces::staying(random);
+    conversion(random, tally, sheets)
+}
+
+/// Records that fall into equal parts, or nearly.
+pub fn part_case(random: &mut Random, tally: &mut Tally) -> Result<(), String> {
+    let sheets = block_pieces::parts(random);
+    conversion(random, tally, sheets)
+}
+
+fn conversion(
+    random: &mut Random,
+    tally: &mut Tally,
+    (from, to): (Model, Model),
+) -> Result<(), String> {
     // Mostly a form that can stop.
     let form = match random.percent(40) {
         true => *random.pick(&[Form::Copying, Form::InPlace]),
         false => *random.pick(&FORMS),
     };
-    let (from, to) = (from.text(), to.text());
     let handling = u32::from(random.percent(55));
+    let made = |random: &mut Random, from: &Datatype, to: &Datatype, matches: &[Match]| {
+        let count = count(random, form, from, to, matches.len());
+        (count, log(random, from, to, count, matches))
+    };
+    run_log(random, tally, (form, handling), (from, to), made)
+}
+
+/// Runs a form over the source records that `made` gives, with their number.
+fn run_log(
+    random: &mut Random,
+    tally: &mut Tally,
+    (form, handling): (Form, u32),
+    (from, to): (Model, Model),
+    made: impl FnOnce(&mut Random, &Datatype, &Datatype, &[Match]) -> (u64, Vec<u8>),
+) -> Result<(), String> {
+    let (from, to) = (from.text(), to.text());
     let made = with_types(&from, &to, |source, destination, matches| {
-        let count = count(random, form, source, destination, matches.len());
-        let mut first = log(random, source, destination, count, matches);
+        let (count, mut first) = made(random, source, destination, matches);
         let longer = match form.is_copying() {
             true => source.size(),
             false => source.size().max(destination.size()),
@@ -126,6 +172,53 @@ pub fn case(random: &mut Random, tally: &mut Tally) -> Result<(), String> {
     let seen = run::both(random, &run)?;
     crate::events::note(tally, &run, &seen);
     block_events::note(tally, &run, &seen);
+    Ok(())
+}
+
+/// Records of a block of 256 at which a run stops: the search for it goes by
+/// smaller blocks there.
+pub const STOPS: [u64; 5] = [1, 7, 8, 9, 255];
+
+/// A run that stops within a block of 256.
+pub fn stop_case(random: &mut Random, tally: &mut Tally) -> Result<(), String> {
+    let sheets = paired(random, 3, block_sheets::numbers);
+    let form = *random.pick(&[Form::Copying, Form::InPlace]);
+    let made = |random: &mut Random, from: &Datatype, to: &Datatype, matches: &[Match]| {
+        let count = random.between(256, 600);
+        let mut bytes = fitting_log(random, from, count, matches);
+        let at = 256 * random.below(count / 256) + *random.pick(&STOPS);
+        let unit = Unit::record(from, to);
+        raise(random, &unit, at, from.size(), matches, &mut bytes);
+        (count, bytes)
+    };
+    run_log(random, tally, (form, 1), sheets, made)
+}
+
+/// Numbers of records of a report at and beside the ends of its blocks.
+pub const REPORTED: [u64; 6] = [8, 9, 255, 256, 257, 600];
+
+/// A report of ints of every size and sign, many of which are clamped.
+pub fn report_case(random: &mut Random, tally: &mut Tally) -> Result<(), String> {
+    let (from, reader) = paired(random, 12, block_sheets::narrowed);
+    let sheets = (from.text(), reader.text());
+    let count = *random.pick(&REPORTED);
+    let log = with_types(&sheets.0, &sheets.1, |source, _, matches| {
+        let mut bytes = random.bytes((source.size() * count) as usize);
+        for record in bytes.chunks_mut(source.size() as usize) {
+            for pair in matches {
+                if random.percent(70) {
+                    let number = fitting(random, pair);
+                    put(pair, number, record);
+                }
+            }
+        }
+        bytes
+    });
+    let log = log.expect("every pair has a path");
+    let run = reports::run_of_log(random, sheets, count, log);
+    let seen = report_run::both(random, &run)?;
+    report_events::note(tally, &run, &seen);
+    block_events::note_report(tally, &run, &seen);
     Ok(())
 }
 
@@ -177,7 +270,7 @@ fn count(random: &mut Random, form: Form, from: &Datatype, to: &Datatype, leaves
         _ => block * random.between(1, 3) + random.below(block),
     };
     let most = 700.max(unit.each * FEWEST);
-    let count = count.min(most);
+    let count = count.clamp(1, most);
     let mut records = match random.percent(40) {
         true => (count / unit.each).max(1),
         false => count.div_ceil(unit.each),
@@ -202,13 +295,7 @@ fn log(
     if style == 0 || matches.is_empty() {
         return records(random, from.size(), count, matches);
     }
-    let mut bytes = random.bytes((from.size() * count) as usize);
-    for record in bytes.chunks_mut(from.size() as usize) {
-        for pair in matches {
-            let number = fitting(random, pair);
-            put(pair, number, record);
-        }
-    }
+    let mut bytes = fitting_log(random, from, count, matches);
     if style < 7 {
         let unit = match random.percent(15) {
             true => Unit::record(from, to),
@@ -221,6 +308,18 @@ fn log(
             // One behind it does not show.
             let behind = random.between(at, units - 1);
             raise(random, &unit, behind, from.size(), matches, &mut bytes);
+        }
+    }
+    bytes
+}
+
+/// Source records whose numbers all fit, where a pair has one that does.
+fn fitting_log(random: &mut Random, from: &Datatype, count: u64, matches: &[Match]) -> Vec<u8> {
+    let mut bytes = random.bytes((from.size() * count) as usize);
+    for record in bytes.chunks_mut(from.size() as usize) {
+        for pair in matches {
+            let number = fitting(random, pair);
+            put(pair, number, record);
         }
     }
     bytes

@@ -3,8 +3,12 @@
 //! `differential` runs all cases of the fixed seed, `--seed N` those of
 //! another, `--cases M` so many, and `--seed N --case K` one alone.
 
+mod block_enums;
 mod block_events;
+mod block_piece_events;
+mod block_pieces;
 mod block_sheets;
+mod block_symbol_events;
 mod blocks;
 mod capi;
 mod compare_events;
@@ -125,7 +129,7 @@ fn run_cases(options: &Options) -> bool {
 }
 
 fn run_case(random: &mut Random, tally: &mut Tally) -> Result<(), String> {
-    let choice = random.below(1606);
+    let choice = random.below(1722);
     let (kind, result) = match choice {
         0 => (
             "conversion of 65,536 records",
@@ -176,7 +180,15 @@ fn run_case(random: &mut Random, tally: &mut Tally) -> Result<(), String> {
         ),
         1460..=1489 => ("comparison's laws", compare_laws::case(random, tally)),
         1490..=1539 => ("symbols", symbols::case(random, tally)),
-        _ => ("conversion in blocks", blocks::case(random, tally)),
+        1540..=1605 => ("conversion in blocks", blocks::case(random, tally)),
+        1606..=1645 => ("enums in blocks", blocks::enum_case(random, tally)),
+        1646..=1669 => (
+            "leaves that stay, in blocks",
+            blocks::staying_case(random, tally),
+        ),
+        1670..=1697 => ("equal parts in blocks", blocks::part_case(random, tally)),
+        1698..=1705 => ("STOP in blocks", blocks::stop_case(random, tally)),
+        _ => ("report in blocks", blocks::report_case(random, tally)),
     };
     tally.saw(&format!("case: {kind}"));
     result.map_err(|fault| format!("({kind}) {fault}"))

@@ -76,6 +76,11 @@ pub fn with_other_free_bits(
 pub fn fitting(random: &mut Random, pair: &Match) -> Option<i128> {
     if let Datatype::Enum { values, .. } = pair.from.datatype {
         let fits = |number: &i128| convert(pair, *number).is_none();
+        if let Some(value) = values.get(random.below(values.len().max(1) as u64) as usize)
+            && fits(&value.number)
+        {
+            return Some(value.number);
+        }
         let numbers: Vec<i128> = values.iter().map(|v| v.number).filter(fits).collect();
         return (!numbers.is_empty()).then(|| *random.pick(&numbers));
     }

@@ -55,10 +55,21 @@ pub fn long_case(random: &mut Random, tally: &mut Tally) -> Result<(), String> {
 pub fn case_of_log(
     random: &mut Random,
     tally: &mut Tally,
-    (from, reader): (Vec<u8>, Vec<u8>),
+    sheets: (Vec<u8>, Vec<u8>),
     count: u64,
     log: Vec<u8>,
 ) -> Result<(), String> {
+    let run = run_of_log(random, sheets, count, log);
+    finish(random, tally, &run)
+}
+
+/// What such a call is given.
+pub fn run_of_log(
+    random: &mut Random,
+    (from, reader): (Vec<u8>, Vec<u8>),
+    count: u64,
+    log: Vec<u8>,
+) -> ReportRun {
     let mut run = make(random, 0, from.clone(), reader.clone());
     with_types(&from, &reader, |from, to, _| {
         run.count = count;
@@ -69,7 +80,7 @@ pub fn case_of_log(
         run.memory = held(random, int_leaves(to).len(), count);
         run.output = room(random, 0, &run);
     });
-    finish(random, tally, &run)
+    run
 }
 
 pub fn finish(random: &mut Random, tally: &mut Tally, run: &ReportRun) -> Result<(), String> {

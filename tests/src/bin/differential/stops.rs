@@ -80,6 +80,10 @@ fn one(random: &mut Random, pair: &Match) -> i128 {
             // It has a symbol in the destination, and none in the source.
             random.pick(values).number
         }
+        (Datatype::Enum { values, .. }, _) if !values.is_empty() && random.percent(30) => {
+            // Beside a number that has one.
+            random.pick(values).number + *random.pick(&[-1, 1])
+        }
         (_, Datatype::Real(_)) if random.percent(40) => near_tie(random),
         _ if random.percent(60) => {
             let ends = [low, low + 1, high, least - 1, most + 1, -1, 0, 1 << 63];
