@@ -16,6 +16,7 @@ mod compare_laws;
 mod compare_run;
 mod compares;
 mod convert;
+mod crowded;
 mod damage;
 mod derive;
 mod events;
@@ -129,7 +130,7 @@ fn run_cases(options: &Options) -> bool {
 }
 
 fn run_case(random: &mut Random, tally: &mut Tally) -> Result<(), String> {
-    let choice = random.below(1722);
+    let choice = random.below(1746);
     let (kind, result) = match choice {
         0 => (
             "conversion of 65,536 records",
@@ -188,7 +189,8 @@ fn run_case(random: &mut Random, tally: &mut Tally) -> Result<(), String> {
         ),
         1670..=1697 => ("equal parts in blocks", blocks::part_case(random, tally)),
         1698..=1705 => ("STOP in blocks", blocks::stop_case(random, tally)),
-        _ => ("report in blocks", blocks::report_case(random, tally)),
+        1706..=1721 => ("report in blocks", blocks::report_case(random, tally)),
+        _ => ("many rows", crowded::case(random, tally)),
     };
     tally.saw(&format!("case: {kind}"));
     result.map_err(|fault| format!("({kind}) {fault}"))

@@ -3,6 +3,7 @@
 
 use crate::block_events;
 use crate::compare_events;
+use crate::crowded;
 use crate::fields;
 use crate::reaches;
 use crate::real_events;
@@ -147,6 +148,7 @@ impl Tally {
             &compare_events::NEEDED,
             &symbol_events::NEEDED,
             &reaches::NEEDED,
+            &crowded::NEEDED,
         ];
         let all = lists.iter().flat_map(|list| list.iter());
         let mut needed: Vec<String> = all.map(|what| what.to_string()).collect();
