@@ -8,6 +8,7 @@ ghost use Rattle.datatype.specs.WellFormed.{WellFormed};
 ghost use Rattle.table.specs.Table.{sizeWord, typeAt};
 ghost use Rattle.paths.specs.Leaf.{MatchFound};
 ghost use Rattle.paths.specs.Steps.{kindAt, covers, Leads, LeadsIn};
+use namesakes::namesake;
 use paths::Pair;
 use paths::Walk;
 use paths::dimensions::same_dimensions;
@@ -17,7 +18,6 @@ use paths::numbers::remainder;
 use paths::types::gap_end;
 use paths::types::kind_at;
 use paths::types::row_end;
-use paths::types::row_of_name;
 use paths::types::row_over;
 use table::ARRAY;
 use table::BASE;
@@ -45,7 +45,7 @@ fn match_named(
     requires { ⌜ (kindAt (now «source_half») «source_type» ≡ 3) × (covers (now «destination_half») row «destination_byte» ≡ true) ⌝ }
     ensures { λ r. ⌜ LeadsIn (now («source_half» .entry)) (now («source_sheet» .entry)) «source_type» (now («destination_half» .entry)) (now («destination_sheet» .entry)) row «destination_byte» r ⌝ }
 {
-    match row_of_name(
+    match namesake(
         source_half,
         source_sheet,
         source_type,

@@ -23,6 +23,8 @@ use Rattle.table.specs.Records.{classCode}
 use Rattle.table.specs.Words.{Reads}
 use Rattle.table.specs.Rows.{rowNamed, memberFound}
 use Rattle.table.proofs.Lookups.{member-named}
+use Rattle.namesakes.specs.Named.{NamedIn}
+use Rattle.namesakes.proofs.Named.{the-row}
 use Rattle.paths.specs.declared.Turn.{Turn}
 use Rattle.paths.specs.declared.Turn.the-variants.{Answer, Bases, Lists}
 use Rattle.paths.specs.declared.Inner.{Inner}
@@ -200,25 +202,28 @@ pub ruleset turn-laws = (needs, path-parts, turn-differ, turn-lists, turn-leaves
 
 -- ---- into a member
 
-module _ (ws ts : List ℕ) (s : ℕ) (wd td : List ℕ) (j : ℕ) {r : Found} (hr : r ≡ rowNamed ws ts (nameAt wd td j) (firstWord ws s) (rowsWord ws s)) where
+module _ (ws ts : List ℕ) (s : ℕ) (wd td : List ℕ) (j : ℕ) {r : Found} (hr : NamedIn ws ts (nameAt wd td j) (firstWord ws s) (rowsWord ws s) r) where
   abbrev inFound : (Datatype → Datatype → Bool) → (ℕ → Datatype) → Lookup → Bool
   inFound ask D = onFound (λ o T. ask T (D (memberTypeWord wd j))) true
 
-  named-is : (ask : Datatype → Datatype → Bool) (S D : ℕ → Datatype) {v : Found} → r ≡ v
+  row-is : (S : ℕ → Datatype) (z : ℕ) → WellFormedIn z (membersOfType S ws ts s) → r ≡ rowNamed ws ts (nameAt wd td j) (firstWord ws s) (rowsWord ws s)
+  row-is S z formed = the-row ws ts (nameAt wd td j) (firstWord ws s) S z (rowsWord ws s) formed hr
+
+  named-is : (ask : Datatype → Datatype → Bool) (S D : ℕ → Datatype) (z : ℕ) {v : Found} → WellFormedIn z (membersOfType S ws ts s) → r ≡ v
       → askNamed ask D (membersOfType S ws ts s) wd td j ≡ inFound ask D (memberFound S ws v)
-  named-is ask S D e =
-      ap (inFound ask D) (member-named ws ts (nameAt wd td j) (firstWord ws s) S (rowsWord ws s) ∙ ap (memberFound S ws) (sym hr ∙ e))
+  named-is ask S D z formed e =
+      ap (inFound ask D) (member-named ws ts (nameAt wd td j) (firstWord ws s) S (rowsWord ws s) ∙ ap (memberFound S ws) (sym (row-is S z formed) ∙ e))
 
   pub inner-neither : r ≡ Missing → (ask : Datatype → Datatype → Bool) → Inside ask ws ts s wd td j Neither
-  inner-neither e ask f z fs fd = record { is = named-is ask (decode f ws ts) (decode f wd td) e; onward = tt }
+  inner-neither e ask f z fs fd = record { is = named-is ask (decode f ws ts) (decode f wd td) z fs e; onward = tt }
 
   pub inner-both : {m k l : ℕ} → r ≡ At m → Reads (memberTypeWord ws m) k → Reads (memberTypeWord wd j) l → (ask : Datatype → Datatype → Bool)
       → Inside ask ws ts s wd td j (Both k l)
   inner-both e hk hl ask f z fs fd =
       record {
-        is = named-is ask (decode f ws ts) (decode f wd td) e ∙ rw (hk .is, hl .is) refl;
+        is = named-is ask (decode f ws ts) (decode f wd td) z fs e ∙ rw (hk .is, hl .is) refl;
         onward = (
-          rw (hk .is) (named-formed (decode f ws ts) ws ts z (firstWord ws s) (nameAt wd td j) (rowsWord ws s) fs (sym hr ∙ e) .1),
+          rw (hk .is) (named-formed (decode f ws ts) ws ts z (firstWord ws s) (nameAt wd td j) (rowsWord ws s) fs (sym (row-is (decode f ws ts) z fs) ∙ e) .1),
           rw (hl .is) fd,
         );
       }

@@ -25,6 +25,8 @@ use Rattle.table.specs.Table.{sizeWord, baseWord, firstWord, rowsWord, offsetWo
 use Rattle.table.specs.Words.{Reads}
 use Rattle.table.specs.Rows.{rowNamed, memberFound}
 use Rattle.table.proofs.Lookups.{member-named}
+use Rattle.namesakes.specs.Named.{NamedIn}
+use Rattle.namesakes.proofs.Named.{the-row}
 use Rattle.paths.specs.declared.Walk.{Walk}
 use Rattle.paths.specs.declared.Walk.the-variants.{On, Same, Off}
 use Rattle.paths.specs.declared.Pair.the-variants.{Matched, Unmatched}
@@ -36,31 +38,36 @@ use Rattle.paths.proofs.Rows.{cond-push, over-covers, over-gap, over-fo
 -- ---- from a destination's row into a source compound
 
 module _ (ws ts : List ℕ) (s : ℕ) (wd td : List ℕ) (j b : ℕ) (kind : kindAt ws s ≡ 3) (here : covers wd j b ≡ true) {r : Found}
-    (hr : r ≡ rowNamed ws ts (nameAt wd td j) (firstWord ws s) (rowsWord ws s)) where
+    (hr : NamedIn ws ts (nameAt wd td j) (firstWord ws s) (rowsWord ws s) r) where
   abbrev inFound : (ℕ → Datatype) → ℕ → Lookup → Match
   inFound D c = onFound (λ o T. further o (matchAt T (D (memberTypeWord wd j)) (c - offsetWord wd j))) unmatched
 
-  named-is : (S D : ℕ → Datatype) (c : ℕ) {v : Found} → r ≡ v → matchNamed D (membersOfType S ws ts s) wd td j c ≡ inFound D c (memberFound S ws v)
-  named-is S D c e =
-      ap (inFound D c) (member-named ws ts (nameAt wd td j) (firstWord ws s) S (rowsWord ws s) ∙ ap (memberFound S ws) (sym hr ∙ e))
+  row-is : (S : ℕ → Datatype) → Whole S ws ts s → r ≡ rowNamed ws ts (nameAt wd td j) (firstWord ws s) (rowsWord ws s)
+  row-is S whole =
+      the-row ws ts (nameAt wd td j) (firstWord ws s) S (sizeWord ws s) (rowsWord ws s) (formed-compound S ws ts s whole kind .1) hr
+
+  named-is : (S D : ℕ → Datatype) (c : ℕ) {v : Found} → Whole S ws ts s → r ≡ v
+      → matchNamed D (membersOfType S ws ts s) wd td j c ≡ inFound D c (memberFound S ws v)
+  named-is S D c whole e =
+      ap (inFound D c) (member-named ws ts (nameAt wd td j) (firstWord ws s) S (rowsWord ws s) ∙ ap (memberFound S ws) (sym (row-is S whole) ∙ e))
 
   in-row : (offsetWord wd j ≤ b) × (b < rowEnd wd j)
   in-row = within→ (offsetWord wd j) (sizeWord wd (memberTypeWord wd j)) b here
 
   pub named-off : {e : ℕ} → r ≡ Missing → e ≡ rowEnd wd j → LeadsIn ws ts s wd td j b (Off e)
   named-off none he S D x y whole formed =
-      record { is = λ i l. (omega arith, named-is S D (b + i) none); onward = omega (arith, in-row) }
+      record { is = λ i l. (omega arith, named-is S D (b + i) whole none); onward = omega (arith, in-row) }
 
   pub named-on : {m from k l o a : ℕ} → r ≡ At m → Reads (offsetWord ws m) from → Reads (memberTypeWord ws m) k → Reads (memberTypeWord wd j) l
       → Reads (offsetWord wd j) o → a ≡ b - o → LeadsIn ws ts s wd td j b (On from k l a)
   named-on {m} {l = l} {o = o} {a = a} e hf hk hl ho ha S D x y whole formed =
       let in-compound = formed-compound S ws ts s whole kind in
-      let found = named-formed S ws ts (sizeWord ws s) (firstWord ws s) (nameAt wd td j) (rowsWord ws s) (in-compound .1) (sym hr ∙ e) in
+      let found = named-formed S ws ts (sizeWord ws s) (firstWord ws s) (nameAt wd td j) (rowsWord ws s) (in-compound .1) (sym (row-is S whole) ∙ e) in
       let same : sizeWord wd l ≡ sizeWord wd (memberTypeWord wd j) = ap (sizeWord wd) (hl .is) in
       record {
         is = λ i h.
             let at : b + i - offsetWord wd j ≡ a + i = omega (arith, in-row, ho .is) in
-            (omega (arith, in-row, ho .is), named-is S D (b + i) e ∙ rw (at, hf .is, hk .is, hl .is) refl);
+            (omega (arith, in-row, ho .is), named-is S D (b + i) whole e ∙ rw (at, hf .is, hk .is, hl .is) refl);
         onward = (omega (arith, found .0, in-compound .0 .most, hf .is), omega (arith, in-row, ho .is), rw (hk .is) (found .1), rw (hl .is) formed);
       }
 

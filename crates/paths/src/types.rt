@@ -3,21 +3,15 @@ ghost use mathlib.Core.Path.{_≡_};
 ghost use mathlib.Core.Bool.{Bool};
 ghost use Prim.Native.Nat.{_<_};
 ghost use Rattle.datatype.specs.Datatype.{Datatype};
-ghost use Rattle.table.specs.Table.{nameAt, firstWord, rowsWord};
-ghost use Rattle.table.specs.Rows.{rowNamed};
 ghost use Rattle.paths.specs.Steps.{covers, rowOver, rowEnd, Nearer, GapEnd, kindAt, Inside};
 use crate::Inner;
-use row_lookup::row_named;
+use namesakes::namesake;
 use table::CLASS;
 use table::CLASSES;
-use table::FIRST;
 use table::Found;
 use table::INT;
 use table::MEMBER_OFFSET;
 use table::MEMBER_TYPE;
-use table::NAME;
-use table::NAME_LENGTH;
-use table::ROWS;
 use table::SIZE;
 use table::read::row_word;
 use table::read::type_word;
@@ -88,32 +82,6 @@ pub fn gap_end(half: &[u32], first: usize, n: usize, byte: usize, end: usize) ->
     at
 }
 
-// The row of the source type that has the name of the destination's row.
-pub fn row_of_name(
-    source_half: &[u32],
-    source_sheet: &[u8],
-    source_type: usize,
-    destination_half: &[u32],
-    destination_sheet: &[u8],
-    row: usize,
-) -> Found
-    ensures { λ r. ⌜ r ≡ rowNamed (now («source_half» .entry)) (now («source_sheet» .entry)) (nameAt (now («destination_half» .entry)) (now («destination_sheet» .entry)) row) (firstWord (now («source_half» .entry)) «source_type») (rowsWord (now («source_half» .entry)) «source_type») ⌝ }
-{
-    let start = row_word(destination_half, row, NAME);
-    let len = row_word(destination_half, row, NAME_LENGTH);
-    let first = type_word(source_half, source_type, FIRST);
-    let n = type_word(source_half, source_type, ROWS);
-    row_named(
-        source_half,
-        source_sheet,
-        first,
-        n,
-        destination_sheet,
-        start,
-        len,
-    )
-}
-
 // The types of the destination's member in the row and of the member of its name in the source compound.
 pub fn inner_types(
     source_half: &[u32],
@@ -125,7 +93,7 @@ pub fn inner_types(
 ) -> Inner
     ensures { λ r. ⌜ ((ask : Datatype → Datatype → Bool) → Inside ask (now («source_half» .entry)) (now («source_sheet» .entry)) «source_type» (now («destination_half» .entry)) (now («destination_sheet» .entry)) row r) ⌝ }
 {
-    match row_of_name(
+    match namesake(
         source_half,
         source_sheet,
         source_type,

@@ -16,6 +16,8 @@ use Rattle.table.specs.declared.Found.the-variants.{At, Missing}
 use Rattle.table.specs.Table.{firstWord, rowsWord, nameAt, symbolsAt}
 use Rattle.table.specs.Words.{Reads}
 use Rattle.table.specs.Rows.{rowNamed}
+use Rattle.namesakes.specs.Named.{NamedIn}
+use Rattle.namesakes.proofs.Named.{not-missing}
 use Rattle.symbol_sets.specs.Seen.{symbolsOfType, allStand, Seen}
 
 -- ---- symbols in rows
@@ -23,6 +25,10 @@ use Rattle.symbol_sets.specs.Seen.{symbolsOfType, allStand, Seen}
 abbrev isFound : Found → Bool
 isFound (At j) = true
 isFound Missing = false
+
+is-some : (r : Found) → (r ≡ Missing → ⊥) → isFound r ≡ true
+is-some (At j) h = refl
+is-some Missing h = absurd (h refl)
 
 has-named : (w t x : List ℕ) (first n : ℕ) → hasSymbol x (symbolsAt w t first n) ≡ isFound (rowNamed w t x first n)
 unfolding hasSymbol symbolsAt rowNamed
@@ -51,9 +57,15 @@ module _ (ws ts : List ℕ) (first : ℕ) (ss : List Symbol) where
   stand-more (suc n) h = rw sub-one refl
 
 module _ (ws ts : List ℕ) (first : ℕ) (wd td : List ℕ) (d n : ℕ) (h : 0 < n) {r : Found}
-    (hr : r ≡ rowNamed wd td (nameAt ws ts (first + (n - 1))) (firstWord wd d) (rowsWord wd d)) where
+    (hr : NamedIn wd td (nameAt ws ts (first + (n - 1))) (firstWord wd d) (rowsWord wd d) r) where
   found-is : {v : Found} → r ≡ v → hasSymbol (nameAt ws ts (first + (n - 1))) (symbolsOfType wd td d) ≡ isFound v
-  found-is e = has-named wd td (nameAt ws ts (first + (n - 1))) (firstWord wd d) (rowsWord wd d) ∙ ap isFound (sym hr ∙ e)
+  found-is {v} e = has-named wd td (nameAt ws ts (first + (n - 1))) (firstWord wd d) (rowsWord wd d) ∙ go v e
+    where
+      go : (v : Found) → r ≡ v → isFound (rowNamed wd td (nameAt ws ts (first + (n - 1))) (firstWord wd d) (rowsWord wd d)) ≡ isFound v
+      go (At j) q =
+          let there = hr .has j q in
+          is-some _ (not-missing wd td (nameAt ws ts (first + (n - 1))) (firstWord wd d) (rowsWord wd d) j (there .0) (there .1) (there .2))
+      go Missing q = ap isFound (hr .none q)
 
   pub stand-lost : r ≡ Missing → allStandIn (symbolsAt ws ts first n) (symbolsOfType wd td d) ≡ false
   stand-lost e = stand-more ws ts first (symbolsOfType wd td d) n h ∙ rw (found-is e) refl

@@ -1,7 +1,7 @@
 // Whether a destination type keeps the symbols of a source type: each symbol of a source enum stands in the destination enum that it is matched with.
 // What bounds the work: without an enum in the destination there is nothing to look at. Else the walk meets no other pairs of types than the question for a path
 // does, and looks up no name for a member that is an int, bits or a real. The symbols of two enums are looked up once, however often the pair occurs: in a table
-// that the reader of sheets made, these are at most 256 by 256 comparisons of names.
+// that the reader of sheets made, these are at most 256 by 257 comparisons of names.
 ghost use mathlib.Core.Path.{_≡_};
 ghost use Prim.Native.Nat.{_<_};
 ghost use Rattle.datatype.specs.SymbolSets.{keepsSymbols, keepsIn};
@@ -9,12 +9,12 @@ ghost use Rattle.datatype.specs.WellFormed.{WellFormed};
 ghost use Rattle.table.specs.Table.{decode, typeAt};
 ghost use Rattle.paths.specs.Steps.{Turns, Inside};
 ghost use Rattle.symbol_sets.specs.Seen.{allStand, Seen, isNumber, anyEnum};
+use namesakes::namesake;
 use paths::Inner;
 use paths::Turn;
 use paths::dimensions::same_dimensions;
 use paths::types::inner_types;
 use paths::types::kind_at;
-use paths::types::row_of_name;
 use table::ARRAY;
 use table::BASE;
 use table::COMPOUND;
@@ -47,7 +47,7 @@ fn symbols_stand(
     let mut left = type_word(source_half, source_type, ROWS);
     while 0 < left {
         left -= 1;
-        match row_of_name(
+        match namesake(
             destination_half,
             destination_sheet,
             destination_type,

@@ -23,14 +23,14 @@ loop-holds c = (stand-start _ _ _ _ (c .before .type-word .ensures) (c .type-wor
 loop-again : tie.Need-loop-again Inv-loop μ-loop
 loop-again c =
     let p = c .before .before in (
-      p .before .before .loop .inv .0 ∙ stand-next _ _ _ _ _ _ _ (p .before .loop-test .taken) (p .row-of-name .ensures) (c .enum-told .given .1),
+      p .before .before .loop .inv .0 ∙ stand-next _ _ _ _ _ _ _ (p .before .loop-test .taken) (p .namesake .ensures) (c .enum-told .given .1),
       omega arith,
     )
 
 returns : tie.Need-returns Inv-loop μ-loop
 returns c =
     let p = c .before .before in
-    sym (p .before .before .loop .inv .0 ∙ stand-lost _ _ _ _ _ _ _ (p .before .loop-test .taken) (p .row-of-name .ensures) (c .enum-told2 .given .1))
+    sym (p .before .before .loop .inv .0 ∙ stand-lost _ _ _ _ _ _ _ (p .before .loop-test .taken) (p .namesake .ensures) (c .enum-told2 .given .1))
 
 returns-2 : tie.Need-returns-2 Inv-loop μ-loop
 returns-2 c = sym (c .before .loop .inv .0 ∙ stand-none _ _ _ _ _ (c .loop-test .left))
