@@ -1,16 +1,17 @@
 -- A row with a name is the row of the name, where the names are unique: those of a well-formed compound's members are. Assumes nothing.
 use mathlib.Core.Path.{_≡_, refl, sym, ap, _∙_}
-use mathlib.Core.Bool.{Bool, true, false, cond, false≢true}
+use mathlib.Core.Bool.{Bool, true, false, cond, _&&_, false≢true}
 use mathlib.Core.List.{List}
 use Prim.Native.Nat.{ℕ, zero, suc, _+_, _≤_, _<_}
 use native.Mathlib.Decide.{ℕ-discrete}
 use native.Mathlib.Omega.{arith}
+use lib.Dec.{leb, ltb}
 use borrow.Author.Needs.{needs}
+use borrow.Author.Tests.{leb-true, ltb-true, le-leb, lt-ltb, lt-leb, le-ltb}
 use Rattle.datatype.specs.Datatype.{Datatype, same}
 use Rattle.datatype.specs.Paths.{memberNamed}
-use Rattle.datatype.specs.Paths.Lookup.{missing}
 use Rattle.datatype.specs.WellFormed.{WellFormedIn}
-use Rattle.datatype.proofs.Tests.{same→eq}
+use Rattle.datatype.proofs.Tests.{and-true, same→eq}
 use Rattle.datatype.proofs.Ways.{not-found}
 use Rattle.table.specs.declared.Found.{Found}
 use Rattle.table.specs.declared.Found.the-variants.{At, Missing}
@@ -18,11 +19,43 @@ use Rattle.table.specs.Table.{rowWord, firstWord, rowsWord, bytesAt, nameAt, me
 use Rattle.table.specs.Words.{Reads}
 use Rattle.table.specs.Rows.{rowNamed, memberFound}
 use Rattle.table.proofs.Lookups.{member-named}
-use Rattle.namesakes.specs.Named.{NamedIn}
+use Rattle.namesakes.specs.Named.{isNamed, NamedIn}
+
+module _ (w t x : List ℕ) (first n : ℕ) where
+  -- ---- a row, whether it is one of them and has the name
+
+  pub row-before : (j : ℕ) → j < first → false ≡ isNamed w t x first n j
+  unfolding isNamed
+  row-before j h = rw (lt-leb first j h) refl
+
+  pub row-behind : (j : ℕ) → first ≤ j → first + n ≤ j → false ≡ isNamed w t x first n j
+  unfolding isNamed
+  row-behind j l h = rw (le-leb first j l, le-ltb j (first + n) h) refl
+
+  pub row-among : (j : ℕ) {b : Bool} → first ≤ j → j < first + n → b ≡ same x (nameAt w t j) → b ≡ isNamed w t x first n j
+  unfolding isNamed
+  row-among j l h e = rw (le-leb first j l, lt-ltb j (first + n) h) e
+
+  named→ : (j : ℕ) → isNamed w t x first n j ≡ true → (first ≤ j) × (j < first + n) × (same x (nameAt w t j) ≡ true)
+  unfolding isNamed
+  named→ j e =
+      let here = and-true (leb first j) (ltb j (first + n) && same x (nameAt w t j)) e in
+      let there = and-true (ltb j (first + n)) (same x (nameAt w t j)) (here .1) in
+      (leb-true first j (here .0), ltb-true j (first + n) (there .0), there .1)
+
+  pub by-hint : (hint : ℕ) {b : Bool} → b ≡ isNamed w t x first n hint → b ≡ true → NamedIn w t x first n (At hint)
+  by-hint hint e q =
+      record {
+        has = λ j p. let at : hint ≡ j = cc in rw (← at) (sym e ∙ q);
+        none = λ p. let no : _≡_ {A = ℕ} 0 1 = cc in absurd (omega arith);
+      }
+
+pub ruleset row-laws = (needs, row-before, row-behind, row-among)
 
 module _ (w t x : List ℕ) (first : ℕ) where
-  -- ---- a row that is found has the name
+  -- ---- the rows, one after the other
 
+  -- one that is found has the name
   named-has : (n : ℕ) {j : ℕ} → rowNamed w t x first n ≡ At j → (first ≤ j) × (j < first + n) × (same x (nameAt w t j) ≡ true)
   unfolding rowNamed
   named-has zero e = let no : _≡_ {A = ℕ} 0 1 = cc in absurd (omega arith)
@@ -35,18 +68,14 @@ module _ (w t x : List ℕ) (first : ℕ) where
       go later false h q = let l = later q in (l .0, omega (arith, l .1), l .2)
 
   pub by-rows : (n : ℕ) {r : Found} → r ≡ rowNamed w t x first n → NamedIn w t x first n r
-  by-rows n e = record { has = λ j q. named-has n (sym e ∙ q); none = λ q. sym e ∙ q }
-
-  -- the row that is looked at first has it
-  pub by-hint : (n hint : ℕ) {b : Bool} → first ≤ hint → hint < first + n → b ≡ same x (nameAt w t hint) → b ≡ true → NamedIn w t x first n (At hint)
-  by-hint n hint l r e q =
+  by-rows n e =
       record {
-        has = λ j p. let at : hint ≡ j = cc in rw (← at) (l, r, sym e ∙ q);
-        none = λ p. let no : _≡_ {A = ℕ} 0 1 = cc in absurd (omega arith);
+        has = λ j q. let h = named-has n (sym e ∙ q) in sym (row-among w t x first n j (h .0) (h .1) refl) ∙ h .2;
+        none = λ q. sym e ∙ q;
       }
 
-  -- where a row has the name, one is found
-  pub not-missing : (n j : ℕ) → first ≤ j → j < first + n → same x (nameAt w t j) ≡ true → rowNamed w t x first n ≡ Missing → ⊥
+  -- where one has the name, one is found
+  not-missing : (n j : ℕ) → first ≤ j → j < first + n → same x (nameAt w t j) ≡ true → rowNamed w t x first n ≡ Missing → ⊥
   unfolding rowNamed
   not-missing zero j l r e q = omega arith
   not-missing (suc n) j l r e q =
@@ -57,6 +86,9 @@ module _ (w t x : List ℕ) (first : ℕ) where
       go later d true h p = let no : _≡_ {A = ℕ} 0 1 = cc in omega arith
       go later (yes at) false h p = false≢true (sym h ∙ (rw at at e))
       go later (no past) false h p = later (omega arith) p
+
+  pub some-row : (n : ℕ) {r : Found} {j : ℕ} → NamedIn w t x first n r → r ≡ At j → rowNamed w t x first n ≡ Missing → ⊥
+  some-row n {j = j} named e = let h = named→ w t x first n j (named .has j e) in not-missing n j (h .0) (h .1) (h .2)
 
   -- ---- unique names
 
@@ -84,7 +116,7 @@ module _ (w t x : List ℕ) (first : ℕ) where
     the-row n {r} f named = go r refl
       where
         go : (v : Found) → r ≡ v → v ≡ rowNamed w t x first n
-        go (At j) e = let h = named .has j e in sym (once n j f (h .0) (h .1) (h .2))
+        go (At j) e = let h = named→ w t x first n j (named .has j e) in sym (once n j f (h .0) (h .1) (h .2))
         go Missing e = sym (named .none e)
 
 pub ruleset hint-laws = (needs, by-rows, by-hint)

@@ -1,15 +1,20 @@
 -- A row found by its name, in whatever order the rows are looked at.
 use mathlib.Core.Path.{_≡_}
-use mathlib.Core.Bool.{true}
+use mathlib.Core.Bool.{Bool, true, _&&_}
 use mathlib.Core.List.{List}
-use Prim.Native.Nat.{ℕ, _+_, _≤_, _<_}
+use Prim.Native.Nat.{ℕ, _+_}
+use lib.Dec.{leb, ltb}
 use Rattle.datatype.specs.Datatype.{same}
 use Rattle.table.specs.declared.Found.{Found}
 use Rattle.table.specs.declared.Found.the-variants.{At, Missing}
 use Rattle.table.specs.Table.{nameAt}
 use Rattle.table.specs.Rows.{rowNamed}
 
--- r is one of the n rows from first on, with the name x; or none of them has it. Where their names are unique, that is the row that rowNamed finds
+-- row j is one of the n rows from first on, and its name is x
+unfoldable pub isNamed : List ℕ → List ℕ → List ℕ → ℕ → ℕ → ℕ → Bool
+isNamed w t x first n j = leb first j && (ltb j (first + n) && same x (nameAt w t j))
+
+-- r is one of these rows; or none of them has the name. Where their names are unique, that is what rowNamed finds
 pub record NamedIn (w t x : List ℕ) (first n : ℕ) (r : Found) : Type 0 where
-  pub has : (j : ℕ) → r ≡ At j → (first ≤ j) × (j < first + n) × (same x (nameAt w t j) ≡ true)
+  pub has : (j : ℕ) → r ≡ At j → isNamed w t x first n j ≡ true
   pub none : r ≡ Missing → rowNamed w t x first n ≡ Missing

@@ -1,8 +1,9 @@
 // Leaves, paths and matches of the types in half a working table, and the plan of the matched leaves.
 // What bounds the work, in a table that the reader of sheets made: a walk goes down at most 64 levels, and looks at no more than 256 rows of each table
-// at a level, at a likely one of the source first, and once more at those of the destination where it ends between members. A plan takes one walk for each matched leaf and one for each part
-// without a match: the rest of a member whose name the source lacks, of a gap between members, or of a type that does not fit. Each of these has a byte of
-// its own, so they are at most 4,096. The members of a type do not overlap, so the question for a path meets at most 4,096 pairs of types at a level.
+// at a level, at a few likely ones first, and once more at those of the destination where it ends between members. A plan takes one walk for each matched leaf
+// and one for each part without a match: the rest of a member whose name the source lacks, of a gap between members, or of a type that does not fit. Each of
+// these has a byte of its own, so they are at most 4,096. The members of a type do not overlap, so the question for a path meets at most 4,096 pairs of types
+// at a level.
 pub mod dimensions;
 pub mod leaf;
 pub mod numbers;

@@ -17,7 +17,7 @@ use Rattle.table.specs.Table.{firstWord, rowsWord, nameAt, symbolsAt}
 use Rattle.table.specs.Words.{Reads}
 use Rattle.table.specs.Rows.{rowNamed}
 use Rattle.namesakes.specs.Named.{NamedIn}
-use Rattle.namesakes.proofs.Named.{not-missing}
+use Rattle.namesakes.proofs.Named.{some-row}
 use Rattle.symbol_sets.specs.Seen.{symbolsOfType, allStand, Seen}
 
 -- ---- symbols in rows
@@ -62,9 +62,7 @@ module _ (ws ts : List ℕ) (first : ℕ) (wd td : List ℕ) (d n : ℕ) (h : 0 
   found-is {v} e = has-named wd td (nameAt ws ts (first + (n - 1))) (firstWord wd d) (rowsWord wd d) ∙ go v e
     where
       go : (v : Found) → r ≡ v → isFound (rowNamed wd td (nameAt ws ts (first + (n - 1))) (firstWord wd d) (rowsWord wd d)) ≡ isFound v
-      go (At j) q =
-          let there = hr .has j q in
-          is-some _ (not-missing wd td (nameAt ws ts (first + (n - 1))) (firstWord wd d) (rowsWord wd d) j (there .0) (there .1) (there .2))
+      go (At j) q = is-some _ (some-row wd td (nameAt ws ts (first + (n - 1))) (firstWord wd d) (rowsWord wd d) hr q)
       go Missing q = ap isFound (hr .none q)
 
   pub stand-lost : r ≡ Missing → allStandIn (symbolsAt ws ts first n) (symbolsOfType wd td d) ≡ false

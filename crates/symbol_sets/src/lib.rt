@@ -1,7 +1,7 @@
 // Whether a destination type keeps the symbols of a source type: each symbol of a source enum stands in the destination enum that it is matched with.
 // What bounds the work: without an enum in the destination there is nothing to look at. Else the walk meets no other pairs of types than the question for a path
 // does, and looks up no name for a member that is an int, bits or a real. The symbols of two enums are looked up once, however often the pair occurs: in a table
-// that the reader of sheets made, these are at most 256 by 257 comparisons of names.
+// that the reader of sheets made, these are at most 256 by 258 comparisons of names.
 ghost use mathlib.Core.Path.{_≡_};
 ghost use Prim.Native.Nat.{_<_};
 ghost use Rattle.datatype.specs.SymbolSets.{keepsSymbols, keepsIn};

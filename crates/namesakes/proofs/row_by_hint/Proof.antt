@@ -7,6 +7,9 @@ pub row-by-hint-spec : {M : Type 1} → statement M
 row-by-hint-spec =
     tie.close
     (tie.spec
+    (λ c κs. search hint-laws)
+    (λ c. search hint-laws)
+    (λ c κs. search hint-laws)
     (λ c. search hint-laws)
     (λ c κs. search hint-laws)
     (λ c. search hint-laws)
