@@ -18,7 +18,7 @@ use paths::numbers::remainder;
 use paths::types::gap_end;
 use paths::types::kind_at;
 use paths::types::row_end;
-use paths::types::row_over;
+use paths::types::row_with_byte;
 use table::ARRAY;
 use table::BASE;
 use table::COMPOUND;
@@ -77,9 +77,7 @@ fn match_compound(
     requires { ⌜ (kindAt (now «source_half») «source_type» ≡ 3) × (kindAt (now «destination_half») «destination_type» ≡ 3) × («destination_byte» < sizeWord (now «destination_half») «destination_type») ⌝ }
     ensures { λ r. ⌜ Leads (now («source_half» .entry)) (now («source_sheet» .entry)) «source_type» (now («destination_half» .entry)) (now («destination_sheet» .entry)) «destination_type» «destination_byte» r ⌝ }
 {
-    let first = type_word(destination_half, destination_type, FIRST);
-    let n = type_word(destination_half, destination_type, ROWS);
-    match row_over(destination_half, first, n, destination_byte) {
+    match row_with_byte(destination_half, destination_type, destination_byte) {
         Found::At(j) => match_named(
             source_half,
             source_sheet,
@@ -90,6 +88,8 @@ fn match_compound(
             destination_byte,
         ),
         Found::Missing => {
+            let first = type_word(destination_half, destination_type, FIRST);
+            let n = type_word(destination_half, destination_type, ROWS);
             let z = type_word(destination_half, destination_type, SIZE);
             Walk::Off(gap_end(destination_half, first, n, destination_byte, z))
         }

@@ -3,22 +3,27 @@ use mathlib.Core.Path.{_≡_, refl, sym, ap, _∙_}
 use mathlib.Core.Logic.{_⊎_, inl, inr}
 use mathlib.Core.Bool.{Bool, true, false, cond, false≢true}
 use mathlib.Core.List.{List}
-use Prim.Native.Nat.{ℕ, zero, suc, _+_, _-_, _≤_, _<_}
-use native.Mathlib.Nat.{not-suc-le-zero, lt-of-not-le}
-use native.Mathlib.Decide.{decLe}
+use Prim.Native.Nat.{ℕ, zero, suc, _+_, _-_, _*_, _≤_, _<_}
+use native.Mathlib.Nat.{not-suc-le-zero, lt-of-not-le, lt-of-le-of-lt, mul-le-mul, le-pred-of-lt}
+use native.Mathlib.Decide.{decLe, ℕ-discrete}
 use native.Mathlib.Numerals.{sub-one}
 use native.Mathlib.Omega.{arith}
+use lib.Dec.{lit<}
+use mir.Syntax.{w64}
+use mir.Val.{Fits}
+use borrow.Author.Needs.{needs}
 use Rattle.datatype.specs.Datatype.{Datatype, size}
 use Rattle.datatype.specs.Leaves.{within}
 use Rattle.datatype.specs.WellFormed.{Apart, WellFormed, WellFormedIn}
 use Rattle.datatype.proofs.Tests.{within→, →within, not-within}
 use Rattle.datatype.proofs.Ways.{formed-found}
+use Rattle.table.specs.declared.Found.{Found}
 use Rattle.table.specs.declared.Found.the-variants.{At, Missing}
-use Rattle.table.specs.Table.{sizeWord, offsetWord, memberTypeWord, membersAt}
+use Rattle.table.specs.Table.{sizeWord, firstWord, rowsWord, offsetWord, memberTypeWord, membersAt}
 use Rattle.table.specs.Words.{Reads}
 use Rattle.table.specs.Rows.{rowNamed, memberFound}
 use Rattle.table.proofs.Lookups.{member-named}
-use Rattle.paths.specs.Steps.{Sized, covers, rowOver, rowEnd, Nearer, GapEnd}
+use Rattle.paths.specs.Steps.{Sized, covers, rowOver, OverIn, rowEnd, Nearer, GapEnd}
 
 pub cond-push : {A B : Type 0} (f : A → B) (x y : A) (t : Bool) → cond t (f x) (f y) ≡ f (cond t x y)
 cond-push f x y true = refl
@@ -43,15 +48,40 @@ module _ (w : List ℕ) (first b : ℕ) where
   over-skip (suc n) h e q = rw sub-one (rw (← (rw sub-one at e), q) refl)
 
   -- a row that is found has the byte
-  pub over-covers : (n : ℕ) {j : ℕ} → rowOver w first n b ≡ At j → covers w j b ≡ true
+  pub over-has : (n : ℕ) {j : ℕ} → rowOver w first n b ≡ At j → (first ≤ j) × (j < first + n) × (covers w j b ≡ true)
   unfolding rowOver
-  over-covers zero e = let no : _≡_ {A = ℕ} 0 1 = cc in absurd (omega arith)
-  over-covers (suc n) {j} e = go (over-covers n) (covers w (first + n) b) refl e
+  over-has zero e = let no : _≡_ {A = ℕ} 0 1 = cc in absurd (omega arith)
+  over-has (suc n) {j} e = go (over-has n) (covers w (first + n) b) refl e
     where
-      go : (rowOver w first n b ≡ At j → covers w j b ≡ true) → (c : Bool) → covers w (first + n) b ≡ c → cond c (At (first + n)) (rowOver w first n b) ≡ At j
-          → covers w j b ≡ true
-      go later true h q = let at : first + n ≡ j = cc in rw at at h
-      go later false h q = later q
+      go : (rowOver w first n b ≡ At j → (first ≤ j) × (j < first + n) × (covers w j b ≡ true))
+          → (c : Bool) → covers w (first + n) b ≡ c → cond c (At (first + n)) (rowOver w first n b) ≡ At j
+          → (first ≤ j) × (j < first + suc n) × (covers w j b ≡ true)
+      go later true h q = let at : first + n ≡ j = cc in (omega arith, omega arith, rw at at h)
+      go later false h q = let l = later q in (l .0, omega (arith, l .1), l .2)
+
+  pub over-rows : (n : ℕ) {r : Found} → r ≡ rowOver w first n b → OverIn w first n b r
+  over-rows n e = record { has = λ j q. over-has n (sym e ∙ q); none = λ q. sym e ∙ q }
+
+  -- a row near a place has it
+  pub over-place : (n at : ℕ) {t : Bool} → at < n → t ≡ covers w (first + at) b → t ≡ true → OverIn w first n b (At (first + at))
+  over-place n at h e q =
+      record {
+        has = λ j p. let is : first + at ≡ j = cc in (omega arith, omega arith, rw (← is) (sym e ∙ q));
+        none = λ p. let no : _≡_ {A = ℕ} 0 1 = cc in absurd (omega arith);
+      }
+
+-- the rows by the words that were read, and a product of two words
+pub over-words : (w : List ℕ) (i b : ℕ) {first n : ℕ} {r : Found} → Reads (firstWord w i) first → Reads (rowsWord w i) n → OverIn w first n b r
+    → OverIn w (firstWord w i) (rowsWord w i) b r
+over-words w i b hf hn over = rw (← (hf .is), ← (hn .is)) over
+
+pub product-fits : (a b : ℕ) → a < 4294967296 → b < 4294967296 → Fits w64 (a * b)
+product-fits a b p q = record { fits = lt-of-le-of-lt (mul-le-mul (le-pred-of-lt p) (le-pred-of-lt q)) (lit< tt) }
+
+pub byte-fits : (b : ℕ) {u v z n : ℕ} → b < u → Reads u z → Reads v n → Fits w64 (n * b)
+byte-fits b {n = n} h hz hn = product-fits n b (hn .small) (omega (arith, hz .small, hz .is))
+
+pub ruleset place-laws = (needs, over-words, byte-fits)
 
 -- ---- between members
 
@@ -133,27 +163,38 @@ module _ (D : ℕ → Datatype) (w t : List ℕ) (z first : ℕ) where
       go later true q = let at : first + n ≡ j = cc in rw (← at) (a .0)
       go later false q = later q
 
+  -- members do not overlap: a row that has the byte is the row that is found
+  over-once : Sized D w → (n b j : ℕ) → WellFormedIn z (membersAt D w t first n) → first ≤ j → j < first + n → covers w j b ≡ true → rowOver w first n b ≡ At j
+  unfolding rowOver membersAt
+  over-once sized zero b j f l r e = absurd (omega arith)
+  over-once sized (suc n) b j f l r e = go (λ h. over-once sized n b j (f .2) l h e) (ℕ-discrete j (first + n))
+    where
+      go : (j < first + n → rowOver w first n b ≡ At j) → Dec (j ≡ first + n)
+          → cond (covers w (first + n) b) (At (first + n)) (rowOver w first n b) ≡ At j
+      go older (yes is) = rw (← is, e) refl
+      go older (no past) =
+          let o : ℕ = offsetWord w (first + n) in
+          let v : ℕ = size (D (memberTypeWord w (first + n))) in
+          let later = older (omega arith) in
+          let here = within→ (offsetWord w j) (sizeWord w (memberTypeWord w j)) b e in
+          let at : offsetWord w j + (b - offsetWord w j) ≡ b = omega (arith, here .0) in
+          rw (← sized (memberTypeWord w (first + n)), ← at, not-within o v (offsetWord w j) (size (D (memberTypeWord w j))) (b - offsetWord w j) (apart-over o v n b (f .0 .apart) later) (omega (arith, here, sized (memberTypeWord w j))), at)
+          later
+
+  pub the-row-over : Sized D w → (n b : ℕ) {r : Found} → WellFormedIn z (membersAt D w t first n) → OverIn w first n b r → r ≡ rowOver w first n b
+  the-row-over sized n b {r} f over = go r refl
+    where
+      go : (v : Found) → r ≡ v → v ≡ rowOver w first n b
+      go (At j) e = let h = over .has j e in sym (over-once sized n b j f (h .0) (h .1) (h .2))
+      go Missing e = sym (over .none e)
+
   -- the same row is found by every byte of its member
   pub over-same : Sized D w → (n b c : ℕ) {j : ℕ} → WellFormedIn z (membersAt D w t first n) → rowOver w first n b ≡ At j → offsetWord w j ≤ c → c < rowEnd w j
       → rowOver w first n c ≡ At j
-  unfolding rowOver membersAt
-  over-same sized zero b c f e l r = let no : _≡_ {A = ℕ} 0 1 = cc in absurd (omega arith)
-  over-same sized (suc n) b c {j} f e l r = go (λ q. over-same sized n b c (f .2) q l r) (covers w (first + n) b) e
-    where
-      at : offsetWord w j + (c - offsetWord w j) ≡ c
-      at = omega arith
-
-      go : (rowOver w first n b ≡ At j → rowOver w first n c ≡ At j) → (x : Bool) → cond x (At (first + n)) (rowOver w first n b) ≡ At j
-          → cond (covers w (first + n) c) (At (first + n)) (rowOver w first n c) ≡ At j
-      go later true q =
-          let is : first + n ≡ j = cc in
-          rw (is, ← at, →within (offsetWord w j) (sizeWord w (memberTypeWord w j)) (c - offsetWord w j) (omega arith)) refl
-      go later false q =
-          let o : ℕ = offsetWord w (first + n) in
-          let v : ℕ = size (D (memberTypeWord w (first + n))) in
-          let apart = apart-over o v n b (f .0 .apart) q in
-          rw (← sized (memberTypeWord w (first + n)), ← at, not-within o v (offsetWord w j) (size (D (memberTypeWord w j))) (c - offsetWord w j) apart (omega (arith, sized (memberTypeWord w j))), at)
-          (later q)
+  over-same sized n b c {j} f e l r =
+      let found = over-has w first b n e in
+      let at : offsetWord w j + (c - offsetWord w j) ≡ c = omega arith in
+      over-once sized n c j f (found .0) (found .1) (rw at at (→within (offsetWord w j) (sizeWord w (memberTypeWord w j)) (c - offsetWord w j) (omega arith)))
 
   -- the newest row, and the others
   pub row-formed : (n : ℕ) → 0 < n → WellFormedIn z (membersAt D w t first n)

@@ -3,9 +3,9 @@ use mathlib.Core.Path.{_≡_, refl, sym, ap, _∙_}
 use mathlib.Core.Bool.{Bool, true, false, not, cond, _&&_}
 use mathlib.Core.List.{List}
 use Prim.Native.Nat.{ℕ, zero, suc, _+_, _-_, _*_, _/_, _%_, _≤_, _<_}
-use native.Mathlib.Nat.{not-suc-le-zero, zero-add, add-zero, add-assoc, suc-mul, mul-le-mul-right, le-of-lt, le-trans, div-lt-iff-lt-mul, div-add-mod', mul-add-div-right, mul-add-mod-self-right, div-eq-of-lt, mod-eq-of-lt, mod-lt, div-le-self, lt-of-le-of-lt, mul-le-mul, le-pred-of-lt}
+use native.Mathlib.Nat.{not-suc-le-zero, zero-add, add-zero, add-assoc, suc-mul, mul-le-mul-right, le-of-lt, le-trans, div-lt-iff-lt-mul, div-add-mod', mul-add-div-right, mul-add-mod-self-right, div-eq-of-lt, mod-eq-of-lt, mod-lt, div-le-self}
 use native.Mathlib.Omega.{arith}
-use lib.Dec.{eqb, ltb, lit<}
+use lib.Dec.{eqb, ltb}
 use mir.Syntax.{w64}
 use mir.Val.{Fits}
 use borrow.Author.Needs.{needs}
@@ -31,9 +31,9 @@ use Rattle.paths.specs.declared.Walk.{Walk}
 use Rattle.paths.specs.declared.Walk.the-variants.{On, Same, Off}
 use Rattle.paths.specs.declared.Pair.the-variants.{Matched, Unmatched}
 use Rattle.paths.specs.Leaf.{leafOfType, MatchFound}
-use Rattle.paths.specs.Steps.{Sized, Whole, kindAt, covers, rowOver, rowEnd, GapEnd, membersOfType, Reaches, matchAfter, Led, Leads, matchNamed, LeadsIn}
+use Rattle.paths.specs.Steps.{Sized, Whole, kindAt, covers, rowOver, OverIn, rowEnd, GapEnd, membersOfType, Reaches, matchAfter, Led, Leads, matchNamed, LeadsIn}
 use Rattle.paths.proofs.Shapes.{leafKind, leaf-kind, treeKind, tree-kind, compound-node, array-node, leaf-node, decode-step, size-decode, whole, type-low, formed-compound, formed-array, element-some}
-use Rattle.paths.proofs.Rows.{cond-push, over-covers, over-gap, over-formed, over-same, named-formed}
+use Rattle.paths.proofs.Rows.{cond-push, product-fits, over-gap, over-formed, over-same, the-row-over, named-formed}
 
 -- ---- from a destination's row into a source compound
 
@@ -88,42 +88,44 @@ module _ (D : ℕ → Datatype) (wd td : List ℕ) (sized : Sized D wd) (ss : Me
       (ap (cond (covers wd (first + n) b) (matchOver (At (first + n)))) (members-match n)
       ∙ cond-push matchOver (At (first + n)) (rowOver wd first n b) (covers wd (first + n) b))
 
-module _ (ws ts : List ℕ) (s : ℕ) (wd td : List ℕ) (d b : ℕ) (ks : kindAt ws s ≡ 3) (kd : kindAt wd d ≡ 3) {first n : ℕ} {r : Found}
-    (hf : Reads (firstWord wd d) first) (hn : Reads (rowsWord wd d) n) (hr : r ≡ rowOver wd first n b) where
-  compound-is : (S D : ℕ → Datatype) (sized : Sized D wd) (c : ℕ) {v : Found} → rowOver wd first n c ≡ v
-      → matchAt (node S ws ts s) (node D wd td d) c ≡ matchOver D wd td sized (membersOfType S ws ts s) first c v
+module _ (ws ts : List ℕ) (s : ℕ) (wd td : List ℕ) (d b : ℕ) (ks : kindAt ws s ≡ 3) (kd : kindAt wd d ≡ 3) {r : Found} (hr : OverIn wd (firstWord wd d) (rowsWord wd d) b r) where
+  compound-is : (S D : ℕ → Datatype) (sized : Sized D wd) (c : ℕ) {v : Found} → rowOver wd (firstWord wd d) (rowsWord wd d) c ≡ v
+      → matchAt (node S ws ts s) (node D wd td d) c ≡ matchOver D wd td sized (membersOfType S ws ts s) (firstWord wd d) c v
   unfolding matchAt
   compound-is S D sized c e =
-      rw (compound-node S ws ts s ks, compound-node D wd td d kd, ← (hf .is), ← (hn .is))
-      (members-match D wd td sized (membersOfType S ws ts s) first c n
-      ∙ ap (matchOver D wd td sized (membersOfType S ws ts s) first c) e)
+      rw (compound-node S ws ts s ks, compound-node D wd td d kd)
+      (members-match D wd td sized (membersOfType S ws ts s) (firstWord wd d) c (rowsWord wd d)
+      ∙ ap (matchOver D wd td sized (membersOfType S ws ts s) (firstWord wd d) c) e)
 
-  pub compound-off : {z e : ℕ} → r ≡ Missing → Reads (sizeWord wd d) z → GapEnd wd first 0 n b z e → Leads ws ts s wd td d b (Off e)
-  compound-off {z} {e} none hz gap S D fs fd =
+  pub compound-off : {first n z e : ℕ} → r ≡ Missing → Reads (firstWord wd d) first → Reads (rowsWord wd d) n → Reads (sizeWord wd d) z → GapEnd wd first 0 n b z e
+      → Leads ws ts s wd td d b (Off e)
+  compound-off {e = e} none hf hn hz gap S D fs fd =
+      let clear = rw (hf .is, hn .is) at (gap .clear) in
       record {
         is = λ i l. (
           omega (arith, gap .inside, hz .is),
           compound-is S D (fd .sized) (b + i)
-              (over-gap wd first n b (b + i) e (λ q h. gap .clear q (omega arith) h) (sym hr ∙ none) (omega arith) l),
+              (over-gap wd (firstWord wd d) (rowsWord wd d) b (b + i) e (λ q h. clear q (omega arith) h) (hr .none none) (omega arith) l),
         );
         onward = gap .behind;
       }
 
   -- the row that is found has the byte
   pub compound-covers : {j : ℕ} → r ≡ At j → covers wd j b ≡ true
-  compound-covers e = over-covers wd first b n (sym hr ∙ e)
+  compound-covers {j} e = hr .has j e .2
 
   pub compound-on : {j : ℕ} {v : Walk} → r ≡ At j → LeadsIn ws ts s wd td j b v → Leads ws ts s wd td d b v
   compound-on {j} {v} e leads S D fs fd =
-      let formed = rw (← (hf .is), ← (hn .is)) at (formed-compound D wd td d fd kd .1) in
-      let inner = over-formed D wd td (sizeWord wd d) first n b formed (sym hr ∙ e) in
+      let formed = formed-compound D wd td d fd kd .1 in
+      let row = sym (the-row-over D wd td (sizeWord wd d) (firstWord wd d) (fd .sized) (rowsWord wd d) b formed hr) ∙ e in
+      let inner = over-formed D wd td (sizeWord wd d) (firstWord wd d) (rowsWord wd d) b formed row in
       let led = leads S D (leafOfType ws ts s) (leafOfType wd td d) fs (inner .1) in
       let from = within→ (offsetWord wd j) (sizeWord wd (memberTypeWord wd j)) b (compound-covers e) in
       record {
         is = λ i l. (
           omega (arith, led .is i l .0, inner .0, fd .sized (memberTypeWord wd j)),
           compound-is S D (fd .sized) (b + i)
-              (over-same D wd td (sizeWord wd d) first (fd .sized) n b (b + i) formed (sym hr ∙ e) (omega (arith, from .0)) (led .is i l .0))
+              (over-same D wd td (sizeWord wd d) (firstWord wd d) (fd .sized) (rowsWord wd d) b (b + i) formed row (omega (arith, from .0)) (led .is i l .0))
               ∙ led .is i l .1,
         );
         onward = led .onward;
@@ -199,8 +201,7 @@ module _ (ws : List ℕ) (s : ℕ) (wd : List ℕ) (d b : ℕ) (ks : kindAt ws s
 -- the code's product fits, whatever the table says
 pub place-fits : (b y : ℕ) {z q x u v : ℕ} → b < u → Reads u z → Reads v x → q ≡ b / y → Fits w64 (q * x)
 place-fits b y {z} {q} {x} h hz hx e =
-    let q-low : q < 4294967296 = omega (arith, div-le-self b y, hz .small, hz .is) in
-    record { fits = lt-of-le-of-lt (mul-le-mul (le-pred-of-lt q-low) (le-pred-of-lt (hx .small))) (lit< tt) }
+    product-fits q x (omega (arith, div-le-self b y, hz .small, hz .is)) (hx .small)
 
 pub ruleset array-laws = (needs, place-fits, array-others, array-on)
 

@@ -54,6 +54,11 @@ unfoldable pub rowOver : List ℕ → ℕ → ℕ → ℕ → Found
 rowOver w first zero b = Missing
 rowOver w first (suc n) b = cond (covers w (first + n) b) (At (first + n)) (rowOver w first n b)
 
+-- r is one of the n rows from first on, and its member has byte b; or no member has it. Where members do not overlap, that is the row that rowOver finds
+pub record OverIn (w : List ℕ) (first n b : ℕ) (r : Found) : Type 0 where
+  pub has : (j : ℕ) → r ≡ At j → (first ≤ j) × (j < first + n) × (covers w j b ≡ true)
+  pub none : r ≡ Missing → rowOver w first n b ≡ Missing
+
 -- where the member in row j ends
 abbrev pub rowEnd : List ℕ → ℕ → ℕ
 rowEnd w j = offsetWord w j + sizeWord w (memberTypeWord w j)

@@ -3,18 +3,26 @@ ghost use mathlib.Core.Path.{_≡_};
 ghost use mathlib.Core.Bool.{Bool};
 ghost use Prim.Native.Nat.{_<_};
 ghost use Rattle.datatype.specs.Datatype.{Datatype};
-ghost use Rattle.paths.specs.Steps.{covers, rowOver, rowEnd, Nearer, GapEnd, kindAt, Inside};
+ghost use Rattle.table.specs.Table.{sizeWord, firstWord, rowsWord};
+ghost use Rattle.paths.specs.Steps.{covers, rowOver, OverIn, rowEnd, Nearer, GapEnd, kindAt, Inside};
 use crate::Inner;
+use crate::numbers::minus;
+use crate::numbers::quotient;
 use namesakes::namesake;
 use table::CLASS;
 use table::CLASSES;
+use table::FIRST;
 use table::Found;
 use table::INT;
 use table::MEMBER_OFFSET;
 use table::MEMBER_TYPE;
+use table::ROWS;
 use table::SIZE;
 use table::read::row_word;
 use table::read::type_word;
+
+// How many rows near a place are looked at before all are.
+const NEAR: usize = 16;
 
 // The byte lies in the member in the row. Where the member starts behind the byte its type is not looked at.
 fn row_covers(half: &[u32], row: usize, byte: usize) -> bool
@@ -43,6 +51,44 @@ pub fn row_over(half: &[u32], first: usize, n: usize, byte: usize) -> Found
         }
     }
     Found::Missing
+}
+
+// Of the n rows from first on, one whose member has the byte. Rows near `place` among them are looked at first, as if members stood in the order of their
+// offsets; where none of these has it, all are.
+fn row_near(half: &[u32], first: usize, n: usize, place: usize, byte: usize) -> Found
+    requires { ⌜ (first < 4294967296) × (n < 4294967296) ⌝ }
+    ensures { λ r. ⌜ OverIn (now (half .entry)) first n byte r ⌝ }
+{
+    let mut at = place;
+    let mut left: usize = NEAR;
+    while 0 < left {
+        left -= 1;
+        if n <= at {
+            return row_over(half, first, n, byte);
+        }
+        let j = first + at;
+        if row_covers(half, j, byte) {
+            return Found::At(j);
+        }
+        if byte < row_word(half, j, MEMBER_OFFSET) {
+            at = minus(at, 1);
+        } else {
+            at += 1;
+        }
+    }
+    row_over(half, first, n, byte)
+}
+
+// The row of a compound whose member has the byte. Where members have one size and the order of their offsets, the first one that is looked at has it.
+pub fn row_with_byte(half: &[u32], type_number: usize, byte: usize) -> Found
+    requires { ⌜ byte < sizeWord (now half) «type_number» ⌝ }
+    ensures { λ r. ⌜ OverIn (now (half .entry)) (firstWord (now (half .entry)) «type_number») (rowsWord (now (half .entry)) «type_number») byte r ⌝ }
+{
+    let first = type_word(half, type_number, FIRST);
+    let n = type_word(half, type_number, ROWS);
+    let z = type_word(half, type_number, SIZE);
+    let place = quotient(n * byte, z);
+    row_near(half, first, n, place, byte)
 }
 
 // Where the member in the row ends.

@@ -8,11 +8,11 @@ match-compound-spec =
     tie.close
     (tie.spec
     (λ c κs. search compound-laws)
-    (λ c κs. search compound-laws)
-    (λ c κs. search compound-laws)
     (λ c. search compound-laws)
     (λ c κs. search compound-laws)
     (λ c. search compound-laws)
+    (λ c κs. search compound-laws)
+    (λ c κs. search compound-laws)
     (λ c κs. search compound-laws)
     (λ c κs. search compound-laws)
     (λ c. search compound-laws)
