@@ -1,12 +1,15 @@
 // A line judged by itself and the lines before it, which are in the table; an accepted one is added.
 ghost use mathlib.Core.Path.{_≡_};
-ghost use Prim.Native.Nat.{_<_};
+ghost use mathlib.Core.Bool.{true};
+ghost use Prim.Native.Nat.{_+_, _<_};
 ghost use lib.ListN.{length};
 ghost use Rattle.number.specs.Parts.{signedBy};
 ghost use Rattle.datatype.specs.Datatype.{binary64};
 ghost use Rattle.line.specs.Line.Line.{atomicLine, enumLine, valueLine, compoundLine, memberLine, arrayLine, realLine};
 ghost use Rattle.table.specs.Table.{bytesAt, upToZero, Holds, typeAt, membersAt, sizeWord, firstWord, rowsWord};
 ghost use Rattle.sheet.specs.Sheet.{judgedAfter, mayPlace};
+ghost use Rattle.name_marks.specs.Marks.{endWord};
+ghost use Rattle.sheet_steps.specs.Noted.{Marked, Ended, Noted};
 ghost use Rattle.sheet_steps.specs.Judged.{soFarAt, Judges};
 ghost use Rattle.sheet_steps.specs.Steps.{isIntAt, TypeAdded, RowAdded};
 use bits::BitAt;
@@ -15,6 +18,8 @@ use bits::Order;
 use layout::Class;
 use layout::Layout;
 use layout::Pad;
+use name_marks::put_mark;
+use name_marks::raise_end;
 use row_rules::member::may_place;
 use row_rules::product::total;
 use row_rules::value::may_list;
@@ -66,7 +71,7 @@ fn next_row(half: &mut [u32], types: u32, rows: u32, r: [u32; 8]) -> Judged
 }
 
 pub fn judge_atomic(half: &mut [u32], sheet: &[u8], types: u32, rows: u32, l: Layout) -> Judged
-    requires { ⌜ Holds (now half) types rows ⌝ }
+    requires { ⌜ Holds (now half) types rows × Noted (now half) (now sheet) types rows ⌝ }
     ensures { λ r. ⌜ Judges (now (half .exit)) (now (sheet .entry)) (judgedAfter (soFarAt (now (half .entry)) (now (sheet .entry)) types rows) (atomicLine l)) r ⌝ }
 {
     if !layout::is_valid(l) {
@@ -99,7 +104,7 @@ pub fn judge_real(
     size: u32,
     order: Order,
 ) -> Judged
-    requires { ⌜ Holds (now half) types rows ⌝ }
+    requires { ⌜ Holds (now half) types rows × Noted (now half) (now sheet) types rows ⌝ }
     ensures { λ r. ⌜ Judges (now (half .exit)) (now (sheet .entry)) (judgedAfter (soFarAt (now (half .entry)) (now (sheet .entry)) types rows) (realLine size order)) r ⌝ }
 {
     if size != 8 {
@@ -121,7 +126,7 @@ fn is_int(half: &[u32], type_number: usize) -> bool
 }
 
 pub fn judge_enum(half: &mut [u32], sheet: &[u8], types: u32, rows: u32, base: u32) -> Judged
-    requires { ⌜ Holds (now half) types rows ⌝ }
+    requires { ⌜ Holds (now half) types rows × Noted (now half) (now sheet) types rows ⌝ }
     ensures { λ r. ⌜ Judges (now (half .exit)) (now (sheet .entry)) (judgedAfter (soFarAt (now (half .entry)) (now (sheet .entry)) types rows) (enumLine base)) r ⌝ }
 {
     if types <= base {
@@ -145,7 +150,7 @@ pub fn judge_value(
     negative: bool,
     distance: u64,
 ) -> Judged
-    requires { ⌜ Holds (now half) types rows × (start < 4294967296) × (len < 4294967296) ⌝ }
+    requires { ⌜ Holds (now half) types rows × Noted (now half) (now sheet) types rows × (start < 4294967296) × (len < 4294967296) ⌝ }
     ensures { λ r. ⌜ Judges (now (half .exit)) (now (sheet .entry)) (judgedAfter (soFarAt (now (half .entry)) (now (sheet .entry)) types rows) (valueLine (bytesAt (now (sheet .entry)) start len) (signedBy negative distance))) r ⌝ }
 {
     if types == 0 {
@@ -159,11 +164,13 @@ pub fn judge_value(
         return Judged::Refused;
     }
     let r = value_record(start as u32, len as u32, negative, distance);
-    next_row(half, types, rows, r)
+    let judged = next_row(half, types, rows, r);
+    put_mark(half, sheet, start, len, rows + 1);
+    judged
 }
 
 pub fn judge_compound(half: &mut [u32], sheet: &[u8], types: u32, rows: u32, size: u32) -> Judged
-    requires { ⌜ Holds (now half) types rows ⌝ }
+    requires { ⌜ Holds (now half) types rows × Noted (now half) (now sheet) types rows ⌝ }
     ensures { λ r. ⌜ Judges (now (half .exit)) (now (sheet .entry)) (judgedAfter (soFarAt (now (half .entry)) (now (sheet .entry)) types rows) (compoundLine size)) r ⌝ }
 {
     if size < 1 {
@@ -186,8 +193,8 @@ fn may_add(
     offset: usize,
     width: usize,
 ) -> bool
-    requires { ⌜ (length (now half) ≡ 4096) × (start < 4294967296) × (len < 4294967296) × (offset < 4294967296) × (width < 4294967296) ⌝ }
-    ensures { λ r. ⌜ r ≡ mayPlace (sizeWord (now (half .entry)) «type_number») (membersAt (typeAt (now (half .entry)) (now (sheet .entry))) (now (half .entry)) (now (sheet .entry)) (firstWord (now (half .entry)) «type_number») (rowsWord (now (half .entry)) «type_number»)) (bytesAt (now (sheet .entry)) start len) offset width ⌝ }
+    requires { ⌜ (length (now half) ≡ 4096) × («type_number» < 4294967296) × (start < 4294967296) × (len < 4294967296) × (offset < 4294967296) × (width < 4294967296) × Marked (now half) (now sheet) (firstWord (now half) «type_number» + rowsWord (now half) «type_number») × Ended (now half) (firstWord (now half) «type_number») (firstWord (now half) «type_number» + rowsWord (now half) «type_number») (endWord (now half) «type_number») ⌝ }
+    ensures { λ r. ⌜ (r ≡ mayPlace (sizeWord (now (half .entry)) «type_number») (membersAt (typeAt (now (half .entry)) (now (sheet .entry))) (now (half .entry)) (now (sheet .entry)) (firstWord (now (half .entry)) «type_number») (rowsWord (now (half .entry)) «type_number»)) (bytesAt (now (sheet .entry)) start len) offset width) × (r ≡ true → offset + width < 4294967296) ⌝ }
 {
     may_place(&half[..HALF], sheet, type_number, start, len, offset, width)
 }
@@ -202,7 +209,7 @@ pub fn judge_member(
     offset: u32,
     kind: u32,
 ) -> Judged
-    requires { ⌜ Holds (now half) types rows × (start < 4294967296) × (len < 4294967296) ⌝ }
+    requires { ⌜ Holds (now half) types rows × Noted (now half) (now sheet) types rows × (start < 4294967296) × (len < 4294967296) ⌝ }
     ensures { λ r. ⌜ Judges (now (half .exit)) (now (sheet .entry)) (judgedAfter (soFarAt (now (half .entry)) (now (sheet .entry)) types rows) (memberLine (bytesAt (now (sheet .entry)) start len) offset kind)) r ⌝ }
 {
     if types == 0 {
@@ -220,7 +227,10 @@ pub fn judge_member(
         return Judged::Refused;
     }
     let r = member_record(start as u32, len as u32, offset, kind);
-    next_row(half, types, rows, r)
+    let judged = next_row(half, types, rows, r);
+    put_mark(half, sheet, start, len, rows + 1);
+    raise_end(half, i, (offset as usize + width) as u32);
+    judged
 }
 
 pub fn judge_array(
@@ -231,7 +241,7 @@ pub fn judge_array(
     base: u32,
     dims: [u32; 4],
 ) -> Judged
-    requires { ⌜ Holds (now half) types rows ⌝ }
+    requires { ⌜ Holds (now half) types rows × Noted (now half) (now sheet) types rows ⌝ }
     ensures { λ r. ⌜ Judges (now (half .exit)) (now (sheet .entry)) (judgedAfter (soFarAt (now (half .entry)) (now (sheet .entry)) types rows) (arrayLine base (upToZero dims))) r ⌝ }
 {
     if types <= base {

@@ -5,6 +5,7 @@ ghost use Prim.Native.Nat.{_≤_};
 ghost use lib.ListN.{length};
 ghost use Rattle.line.specs.Read.{nextAfter, namesWithin};
 ghost use Rattle.table.specs.Table.{Holds};
+ghost use Rattle.sheet_steps.specs.Noted.{Noted};
 ghost use Rattle.sheet_steps.specs.Judged.{soFarAt, Judges};
 ghost use Rattle.sheet_steps.specs.Read.{readJudged, ReadsLines, ReadsSheet};
 use judging::judge_array;
@@ -17,13 +18,17 @@ use judging::judge_value;
 use line::Line;
 use line::ReadLine;
 use line_reading::read_line;
+use name_marks::MARKS_AT;
+use name_marks::NOTES;
 use sheet_steps::Judged;
 use sheet_steps::MOST_TEXT;
 use sheet_steps::SheetRead;
+use table::store::clear;
+use table::store::clear_types;
 
 // What a line that was read adds to the table.
 fn judge_line(half: &mut [u32], sheet: &[u8], types: u32, rows: u32, r: ReadLine) -> Judged
-    requires { ⌜ Holds (now half) types rows × (namesWithin (now sheet) (r .line) ≡ true) × (length (now sheet) ≤ 16384) ⌝ }
+    requires { ⌜ Holds (now half) types rows × Noted (now half) (now sheet) types rows × (namesWithin (now sheet) (r .line) ≡ true) × (length (now sheet) ≤ 16384) ⌝ }
     ensures { λ j. ⌜ Judges (now (half .exit)) (now (sheet .entry)) (readJudged (now (sheet .entry)) r (soFarAt (now (half .entry)) (now (sheet .entry)) types rows)) j ⌝ }
 {
     let line = r.line;
@@ -74,11 +79,12 @@ fn next_of(line: Line) -> usize
     }
 }
 
-// The lines of a sheet that is not too long.
+// The lines of a sheet that is not too long. No note of an earlier sheet is left: it would be true, and cost a look at each row.
 fn read_lines(sheet: &[u8], half: &mut [u32]) -> SheetRead
     requires { ⌜ (length (now sheet) ≤ 16384) × (length (now half) ≡ 4096) ⌝ }
     ensures { λ r. ⌜ ReadsLines (now (sheet .entry)) (now (half .exit)) r ⌝ }
 {
+    clear(&mut half[MARKS_AT..], NOTES);
     let mut at: usize = 0;
     let mut n: u32 = 0;
     let mut m: u32 = 0;
@@ -115,7 +121,7 @@ pub fn read_sheet(sheet: &[u8], half: &mut [u32]) -> SheetRead
     }
     match read_lines(sheet, half) {
         SheetRead::Types(types, rows) => {
-            table::store::clear_types(half, types as usize);
+            clear_types(half, types as usize);
             SheetRead::Types(types, rows)
         }
         SheetRead::Faulty(k) => SheetRead::Faulty(k),

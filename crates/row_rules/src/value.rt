@@ -1,30 +1,21 @@
 // Whether an enum may have a value more.
 ghost use mathlib.Core.Path.{_≡_};
-ghost use Prim.Native.Nat.{_-_, _^_, _<_};
+ghost use Prim.Native.Nat.{_+_, _-_, _^_, _<_};
 ghost use lib.Dec.{leb, eqb};
 ghost use Rattle.number.specs.Number.{fitted};
 ghost use Rattle.number.specs.Parts.{signedBy};
 ghost use Rattle.table.specs.Table.{layoutAt, bytesAt, symbolsAt, firstWord, rowsWord};
 ghost use Rattle.sheet.specs.Sheet.{mayList};
-ghost use Rattle.sheet_steps.specs.Steps.{isMissing};
+ghost use Rattle.sheet_steps.specs.Noted.{Marked};
+use crate::name::is_missing;
+use crate::name::is_new;
 use bits::shift::ones;
 use layout::Layout;
-use row_lookup::row_named;
 use row_lookup::row_numbered;
 use table::FIRST;
-use table::Found;
 use table::ROWS;
 use table::read::layout_at;
 use table::read::type_word;
-
-pub fn is_missing(f: Found) -> bool
-    ensures { λ r. ⌜ r ≡ isMissing f ⌝ }
-{
-    match f {
-        Found::At(_) => false,
-        Found::Missing => true,
-    }
-}
 
 // d is a number of p bits.
 fn fits_in(d: u64, p: u32) -> bool
@@ -62,12 +53,12 @@ pub fn may_list(
     negative: bool,
     distance: u64,
 ) -> bool
-    requires { ⌜ (start < 4294967296) × (len < 4294967296) ⌝ }
+    requires { ⌜ (start < 4294967296) × (len < 4294967296) × Marked (now half) (now sheet) (firstWord (now half) «type_number» + rowsWord (now half) «type_number») ⌝ }
     ensures { λ r. ⌜ r ≡ mayList (layoutAt (now (half .entry)) «type_number») (symbolsAt (now (half .entry)) (now (sheet .entry)) (firstWord (now (half .entry)) «type_number») (rowsWord (now (half .entry)) «type_number»)) (bytesAt (now (sheet .entry)) start len) (signedBy negative distance) ⌝ }
 {
     let first = type_word(half, type_number, FIRST);
     let rows = type_word(half, type_number, ROWS);
-    if !is_missing(row_named(half, sheet, first, rows, sheet, start, len)) {
+    if !is_new(half, sheet, first, rows, start, len) {
         return false;
     }
     if !is_missing(row_numbered(half, first, rows, negative, distance)) {

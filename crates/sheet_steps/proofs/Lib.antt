@@ -1,4 +1,5 @@
 pub mod Numbered
+pub mod Notes
 pub mod Added
 pub mod Lines
 pub mod Apart

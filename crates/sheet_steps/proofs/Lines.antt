@@ -3,7 +3,7 @@ use mathlib.Core.Path.{_≡_, refl, sym, ap, _∙_, subst}
 use mathlib.Core.Bool.{Bool, true, false, not, _||_, false≢true}
 use mathlib.Core.List.{List, [], _∷_}
 use mathlib.Core.Option.{none}
-use Prim.Native.Nat.{ℕ, zero, suc, _-_, _*_, _<_, _≤_}
+use Prim.Native.Nat.{ℕ, zero, suc, _+_, _-_, _*_, _<_, _≤_}
 use native.Mathlib.Numerals.{sub-one}
 use native.Mathlib.Omega.{arith}
 use borrow.Author.Tests.{lt-ltb, le-ltb, le-leb, lt-leb, eq-eqb, ne-eqb, eqb-true, eqb-false}
@@ -30,12 +30,15 @@ use Rattle.table.proofs.Keeps.{type-is}
 use Rattle.table.proofs.Made.{node-array, node-compound, node-enum, node-real, node-leaf, atomic-made, real-made, enum-made, compound-made, array-made, member-made, value-made}
 use Rattle.sheet_steps.specs.declared.Judged.{Judged}
 use Rattle.sheet.specs.Sheet.{SoFar, enumOf, withValue, withMember, mayList, mayPlace, addType, addRow, typeNumbered, judgedAfter}
+use Rattle.name_marks.specs.Marks.{markPut, endRaised}
+use Rattle.sheet_steps.specs.Noted.{Noted}
 use Rattle.sheet_steps.specs.Judged.{soFarAt, Judges}
 use Rattle.sheet_steps.specs.declared.Total.{Total}
 use Rattle.sheet_steps.specs.declared.Total.the-variants.{Bytes, TooMany}
 use Rattle.sheet_steps.specs.Steps.{TypeAdded, RowAdded, isIntAt, totalOf}
 use Rattle.sheet_steps.proofs.Numbered.{type-numbered, type-size}
 use Rattle.sheet_steps.proofs.Totals.{some-dimension, few-dimensions, each-dimension, no-dimension, total-fits, total-large}
+use Rattle.sheet_steps.proofs.Notes.{mark-noted, end-noted}
 use Rattle.sheet_steps.proofs.Added.{typed, rowed}
 
 -- ---- atomic types
@@ -44,22 +47,22 @@ no-four : (k : Class) → classCode k ≡ 4 → ⊥
 no-four Int e = omega arith
 no-four Bits e = omega arith
 
-pub atomic-judged : {w v r : List ℕ} {n m : ℕ} {j : Judged} {b : Bool} (t : List ℕ) (l : Layout) → Holds w n m → b ≡ valid l → not b ≡ false → r ≡ atomicRecord l m → TypeAdded w v n m r j
+pub atomic-judged : {w v r : List ℕ} {n m : ℕ} {j : Judged} {b : Bool} (t : List ℕ) (l : Layout) → Holds w n m → Noted w t n m → b ≡ valid l → not b ≡ false → r ≡ atomicRecord l m → TypeAdded w v n m r j
     → Judges v t (judgedAfter (soFarAt w t n m) (atomicLine l)) j
 unfolding layoutRecord
-atomic-judged {w} {n = n} {m = m} t l h test kept e added =
-    rw (holds test kept) (typed t h (rw e at added) refl (λ x. absurd (no-four (l .class) x)) refl refl (λ x. atomic-made w n x (h .words) (typeAt w t) t l m))
+atomic-judged {w} {n = n} {m = m} t l h noted test kept e added =
+    rw (holds test kept) (typed t h noted (rw e at added) refl (λ x. absurd (no-four (l .class) x)) refl refl (λ x. atomic-made w n x (h .words) (typeAt w t) t l m))
 
 -- ---- reals
 
 pub real-size : {l : Layout} (o : Order) → l ≡ binary64 o → l .size .0 < 4294967296
 real-size o e = rw e (omega arith)
 
-pub real-judged : {w v r : List ℕ} {n m z : ℕ} {j : Judged} {l : Layout} (t : List ℕ) (o : Order) → Holds w n m → z ≡ 8 → l ≡ binary64 o → r ≡ realRecord l m → TypeAdded w v n m r j
+pub real-judged : {w v r : List ℕ} {n m z : ℕ} {j : Judged} {l : Layout} (t : List ℕ) (o : Order) → Holds w n m → Noted w t n m → z ≡ 8 → l ≡ binary64 o → r ≡ realRecord l m → TypeAdded w v n m r j
     → Judges v t (judgedAfter (soFarAt w t n m) (realLine z o)) j
 unfolding layoutRecord
-real-judged {w} {n = n} {m = m} {z = z} t o h e is er added =
-    rw (eq-eqb z 8 e) (typed t h (rw (er, is) at added) refl (λ x. omega arith) refl refl (λ x. real-made w n x (h .words) (typeAt w t) t (binary64 o) m refl))
+real-judged {w} {n = n} {m = m} {z = z} t o h noted e is er added =
+    rw (eq-eqb z 8 e) (typed t h noted (rw (er, is) at added) refl (λ x. omega arith) refl refl (λ x. real-made w n x (h .words) (typeAt w t) t (binary64 o) m refl))
 
 pub real-other : {z : ℕ} (s : SoFar) (o : Order) → (z ≡ 8 → ⊥) → judgedAfter s (realLine z o) ≡ none
 real-other {z} s o ne = rw (ne-eqb z 8 ne)
@@ -111,14 +114,14 @@ module _ (D : ℕ → Datatype) (w t : List ℕ) (i : ℕ) where
       go (suc zero) e = absurd (false≢true e)
       go (suc (suc c)) e = rw (ne-eqb (suc (suc c)) 1 (λ x. omega arith)) refl
 
-pub enum-judged : {w v r : List ℕ} {n m k : ℕ} {j : Judged} {l : Layout} {b : Bool} (t : List ℕ) → Holds w n m → k < n → b ≡ isIntAt w k → not b ≡ false → l ≡ layoutAt w k → r ≡ enumRecord l m → TypeAdded w v n m r j
+pub enum-judged : {w v r : List ℕ} {n m k : ℕ} {j : Judged} {l : Layout} {b : Bool} (t : List ℕ) → Holds w n m → Noted w t n m → k < n → b ≡ isIntAt w k → not b ≡ false → l ≡ layoutAt w k → r ≡ enumRecord l m → TypeAdded w v n m r j
     → Judges v t (judgedAfter (soFarAt w t n m) (enumLine k)) j
 unfolding layoutRecord
-enum-judged {w} {n = n} {m = m} {k = k} {l = l} t h below test kept e er added =
+enum-judged {w} {n = n} {m = m} {k = k} {l = l} t h noted below test kept e er added =
     let int = holds test kept in
     let c : l .class ≡ Int = rw e (int-class (typeAt w t) w t k int) in
     rw (type-numbered w t k n, lt-ltb k n below, type-is t h k below, enum-of (typeAt w t) w t k, int, ← e)
-    (typed t h (rw er at added) refl (λ x. omega arith) refl refl (λ x. enum-made w n x (h .words) (typeAt w t) t l m c))
+    (typed t h noted (rw er at added) refl (λ x. omega arith) refl refl (λ x. enum-made w n x (h .words) (typeAt w t) t l m c))
 
 pub enum-high : (w t : List ℕ) {n k : ℕ} (m : ℕ) → n ≤ k → judgedAfter (soFarAt w t n m) (enumLine k) ≡ none
 enum-high w t {n} {k} m h = rw (type-numbered w t k n, le-ltb k n h)
@@ -128,12 +131,12 @@ enum-other {w} {n} {m} {k} t h below test e = rw (type-numbered w t k n, lt-ltb 
 
 -- ---- compounds
 
-pub compound-judged : {w v r : List ℕ} {n m z : ℕ} {j : Judged} (t : List ℕ) → Holds w n m → 1 ≤ z → z ≤ 4096 → r ≡ compoundRecord z m → TypeAdded w v n m r j
+pub compound-judged : {w v r : List ℕ} {n m z : ℕ} {j : Judged} (t : List ℕ) → Holds w n m → Noted w t n m → 1 ≤ z → z ≤ 4096 → r ≡ compoundRecord z m → TypeAdded w v n m r j
     → Judges v t (judgedAfter (soFarAt w t n m) (compoundLine z)) j
 unfolding compoundRecord
-compound-judged {w} {n = n} {m = m} {z = z} t h low high e added =
+compound-judged {w} {n = n} {m = m} {z = z} t h noted low high e added =
     rw (le-leb 1 z low, le-leb z 4096 high)
-    (typed t h (rw e at added) refl (λ x. omega arith) refl refl (λ x. compound-made w n x (h .words) (typeAt w t) t z m))
+    (typed t h noted (rw e at added) refl (λ x. omega arith) refl refl (λ x. compound-made w n x (h .words) (typeAt w t) t z m))
 
 pub compound-none : {z : ℕ} (s : SoFar) → z < 1 → judgedAfter s (compoundLine z) ≡ none
 compound-none {z} s h = rw (lt-leb 1 z h)
@@ -160,14 +163,14 @@ array-line {w} {n} {m} {k} t ds h below four ne =
       each-dimension ds,
     ) refl
 
-pub array-judged : {w v r : List ℕ} {n m k z y : ℕ} {j : Judged} {o : Total} (t ds : List ℕ) → Holds w n m → k < n → length ds ≡ 4 → (getD ds 0 0 ≡ 0 → ⊥)
+pub array-judged : {w v r : List ℕ} {n m k z y : ℕ} {j : Judged} {o : Total} (t ds : List ℕ) → Holds w n m → Noted w t n m → k < n → length ds ≡ 4 → (getD ds 0 0 ≡ 0 → ⊥)
     → y ≡ sizeWord w k → o ≡ totalOf ds y → o ≡ Bytes z → r ≡ arrayRecord z k m ds → TypeAdded w v n m r j
     → Judges v t (judgedAfter (soFarAt w t n m) (arrayLine k (upToZero ds))) j
 unfolding arrayRecord
-array-judged {w} {n = n} {m = m} {k = k} {z = z} t ds h below four ne size answer bytes e added =
+array-judged {w} {n = n} {m = m} {k = k} {z = z} t ds h noted below four ne size answer bytes e added =
     let total : Bytes z ≡ totalOf ds (sizeWord w k) = rw (← size) (sym bytes ∙ answer) in
     rw (array-line t ds h below four ne, total-fits ds (sizeWord w k) total .0, ← (total-fits ds (sizeWord w k) total .1))
-    (typed t h (rw e at added) refl (λ x. below) refl refl (λ x. array-made w n x (h .words) (typeAt w t) t z k m ds four))
+    (typed t h noted (rw e at added) refl (λ x. below) refl refl (λ x. array-made w n x (h .words) (typeAt w t) t z k m ds four))
 
 pub array-large : {w : List ℕ} {n m k y : ℕ} {o : Total} (t ds : List ℕ) → Holds w n m → k < n → length ds ≡ 4 → (getD ds 0 0 ≡ 0 → ⊥)
     → y ≡ sizeWord w k → o ≡ totalOf ds y → o ≡ TooMany → judgedAfter (soFarAt w t n m) (arrayLine k (upToZero ds)) ≡ none
@@ -236,16 +239,16 @@ pub value-refused : {w : List ℕ} (n : ℕ) {m : ℕ} {b : Bool} (t x : List �
     → judgedAfter (soFarAt w t n m) (valueLine x z) ≡ none
 value-refused n t x z h ne e may test = value-in n t x z h ne e ∙ rw (fails may test)
 
-pub value-judged : {w v r : List ℕ} (n : ℕ) {m : ℕ} {j : Judged} {b : Bool} (t : List ℕ) (start len : ℕ) (negative : Bool) (d : ℕ) → Holds w n m → (n ≡ 0 → ⊥) → classWord w (n - 1) ≡ 2
+pub value-judged : {w v u r : List ℕ} (n : ℕ) {m : ℕ} {j : Judged} {b : Bool} (t : List ℕ) (start len : ℕ) (negative : Bool) (d : ℕ) → Holds w n m → Noted w t n m → (n ≡ 0 → ⊥) → classWord w (n - 1) ≡ 2
     → b ≡ mayList (layoutAt w (n - 1)) (symbolsAt w t (firstWord w (n - 1)) (rowsWord w (n - 1))) (bytesAt t start len) (signedBy negative d) → not b ≡ false
-    → r ≡ valueRecord start len negative d → RowAdded w v n m r j
-    → Judges v t (judgedAfter (soFarAt w t n m) (valueLine (bytesAt t start len) (signedBy negative d))) j
+    → r ≡ valueRecord start len negative d → RowAdded w v n m r j → u ≡ markPut v (bytesAt t start len) (m + 1)
+    → Judges u t (judgedAfter (soFarAt w t n m) (valueLine (bytesAt t start len) (signedBy negative d))) j
 unfolding valueRecord
-value-judged zero t start len negative d h ne e may test er added = absurd (ne refl)
-value-judged {w} (suc i) {m} t start len negative d h ne e may test er added =
+value-judged zero t start len negative d h noted ne e may test er added marked = absurd (ne refl)
+value-judged {w} {v} (suc i) {m} t start len negative d h noted ne e may test er added marked =
     let class : classWord w i ≡ 2 = rw sub-one at e in
     rw (value-in (suc i) t (bytesAt t start len) (signedBy negative d) h ne e, holds may test, sub-one)
-    (rowed t h (rw er at added) refl (λ x. absurd (omega arith)) (λ x. value-made t start len negative d h x (typeAt w t) class))
+    (rowed {e = 0} t (bytesAt t start len) h noted (rw er at added) (λ long. rw marked (mark-noted v (bytesAt t start len) m i long)) refl refl (λ x. absurd (omega arith)) (λ x. value-made t start len negative d h x (typeAt w t) class))
 
 -- ---- members
 
@@ -275,13 +278,13 @@ pub member-refused : {w : List ℕ} (n : ℕ) {m : ℕ} {b : Bool} (t x : List �
     → judgedAfter (soFarAt w t n m) (memberLine x offset k) ≡ none
 member-refused n t x offset k h ne below e size may test = member-in n t x offset k h ne below e ∙ rw (← size, fails may test)
 
-pub member-judged : {w v r : List ℕ} (n : ℕ) {m : ℕ} {j : Judged} {b : Bool} (t : List ℕ) (start len offset k : ℕ) {width : ℕ} → Holds w n m → (n ≡ 0 → ⊥) → k < n - 1 → classWord w (n - 1) ≡ 3 → width ≡ sizeWord w k
+pub member-judged : {w v y u r : List ℕ} (n : ℕ) {m : ℕ} {j : Judged} {b : Bool} (t : List ℕ) (start len offset k : ℕ) {width : ℕ} → Holds w n m → Noted w t n m → (n ≡ 0 → ⊥) → k < n - 1 → classWord w (n - 1) ≡ 3 → width ≡ sizeWord w k
     → b ≡ mayPlace (sizeWord w (n - 1)) (membersAt (typeAt w t) w t (firstWord w (n - 1)) (rowsWord w (n - 1))) (bytesAt t start len) offset width → not b ≡ false
-    → r ≡ memberRecord start len offset k → RowAdded w v n m r j
-    → Judges v t (judgedAfter (soFarAt w t n m) (memberLine (bytesAt t start len) offset k)) j
+    → r ≡ memberRecord start len offset k → RowAdded w v n m r j → y ≡ markPut v (bytesAt t start len) (m + 1) → u ≡ endRaised y (n - 1) (offset + width)
+    → Judges u t (judgedAfter (soFarAt w t n m) (memberLine (bytesAt t start len) offset k)) j
 unfolding memberRecord
-member-judged zero t start len offset k h ne below e size may test er added = absurd (ne refl)
-member-judged {w} (suc i) {m} t start len offset k h ne below e size may test er added =
+member-judged zero t start len offset k h noted ne below e size may test er added marked ended = absurd (ne refl)
+member-judged {w} {v} (suc i) {m} t start len offset k {width} h noted ne below e size may test er added marked ended =
     let class : classWord w i ≡ 3 = rw sub-one at e in
     rw (member-in (suc i) t (bytesAt t start len) offset k h ne below e, ← size, holds may test, sub-one)
-    (rowed t h (rw er at added) refl (λ x. rw sub-one at below) (λ x. member-made t start len offset k h x (typeAt w t) class))
+    (rowed {e = offset + width} t (bytesAt t start len) h noted (rw er at added) (λ long. rw (ended, marked, sub-one) (end-noted (offset + width) (h .types) long (mark-noted v (bytesAt t start len) m i long))) refl refl (λ x. (rw sub-one at below, omega (arith, size))) (λ x. member-made t start len offset k h x (typeAt w t) class))

@@ -26,10 +26,12 @@ use Rattle.sheet_steps.specs.declared.SheetRead.the-variants.{Types, Fau
 use Rattle.sheet.specs.Sheet.{SoFar, judgedAfter, isNil, ended, linesFrom, outcomeOf, Outcome}
 use Rattle.sheet.specs.Sheet.Outcome.{accepted, faulty}
 use Rattle.sheet.specs.FirstFault.{noLines}
-use Rattle.sheet_steps.specs.Judged.{soFarAt, judgedAs, HoldsAfter, Judges}
+use Rattle.sheet_steps.specs.Judged.{soFarAt, judgedAs, HoldsAfter, NotedAfter, Judges}
+use Rattle.sheet_steps.specs.Noted.{Noted}
 use Rattle.sheet_steps.specs.Read.{readJudged, readAs, Stands, StandsAfter, ReadsLines, ReadsSheet}
 use Rattle.sheet.proofs.ReadWellFormed.{EachWellFormed, then-gave, line-keeps}
 use Rattle.sheet_steps.proofs.Numbered.{no-types}
+use Rattle.sheet_steps.proofs.Notes.{noted-none}
 use Rattle.sheet_steps.proofs.Turns.{Turn, turn}
 
 -- the lines before place at gave n types and m rows, and line k is next
@@ -37,12 +39,13 @@ pub record Before (t w : List ℕ) (at n m k : ℕ) : Type 0 where
   pub inside : at ≤ length t
   pub counted : k ≤ at + 1
   pub holds : Holds w n m
+  pub noted : Noted w t n m
   pub formed : EachWellFormed (typesAt w t n)
   pub rest : linesFrom k (soFarAt w t n m) (split newline (drop at t)) ≡ linesFrom 1 noLines (split newline t)
 
 pub first : (t w : List ℕ) → length w ≡ 4096 → Before t w 0 0 0 1
 unfolding typesAt
-first t w h = record { inside = omega arith; counted = omega arith; holds = holds-none w h; formed = tt; rest = refl }
+first t w h = record { inside = omega arith; counted = omega arith; holds = holds-none w h; noted = noted-none w t; formed = tt; rest = refl }
 
 module _ (t w v : List ℕ) (at n m k : ℕ) (before : Before t w at n m k) (below : at < length t) (r : ReadLine) (reads : Reads t r (lineReading t at))
     (j : Judged) (judged : Judges v t (readJudged t r (soFarAt w t n m)) j) where
@@ -70,6 +73,7 @@ module _ (t w v : List ℕ) (at n m k : ℕ) (before : Before t w at n m k) (bel
           inside = rw q (here .inside (soFarAt v t n′ m′) some-now);
           counted = let f = further in let b = before .counted in omega arith;
           holds = subst (λ (x : Judged). HoldsAfter x v) e (judged .holds);
+          noted = subst (λ (x : Judged). NotedAfter x v t) e (judged .noted);
           formed =
               let g = then-gave (says t r) (judgedAfter (soFarAt w t n m)) some-now in
               line-keeps (soFarAt w t n m) (g .0) (before .formed) (g .2);

@@ -1,3 +1,4 @@
+pub mod Noted
 pub mod Judged
 pub mod Steps
 pub mod Read

@@ -9,7 +9,7 @@ use Rattle.judging.proofs.judge_atomic.Statement.{statement}
 use Rattle.judging.proofs.judge_atomic.Tie as tie
 
 returns : tie.Need-returns
-returns c = refused (c .before .before .before .before .pre) (rw (fails (c .before .is-valid .ensures) (c .if1 .taken)))
+returns c = refused (c .before .before .before .before .pre .0) (rw (fails (c .before .is-valid .ensures) (c .if1 .taken)))
 
 atomic-record-requires : tie.Need-atomic-record-requires
 atomic-record-requires c κs =
@@ -19,7 +19,7 @@ atomic-record-requires c κs =
 returns-2 : tie.Need-returns-2
 returns-2 c =
     let s = c .before .before .before .before .before .before .before .before .before in
-    atomic-judged (s .args .sheet .now) (s .args .l) (s .pre) (c .before .before .before .before .before .before .is-valid .ensures) (c .before .before .before .before .before .if1 .left) (c .before .before .before .atomic-record .ensures) (c .before .before .next-type .ensures)
+    atomic-judged (s .args .sheet .now) (s .args .l) (s .pre .0) (s .pre .1) (c .before .before .before .before .before .before .is-valid .ensures) (c .before .before .before .before .before .if1 .left) (c .before .before .before .atomic-record .ensures) (c .before .before .next-type .ensures)
 
 pub judge-atomic-spec : {M : Type 1} → statement M
 judge-atomic-spec =

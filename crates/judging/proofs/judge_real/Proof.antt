@@ -9,7 +9,7 @@ use Rattle.judging.proofs.judge_real.Tie as tie
 returns : tie.Need-returns
 returns c =
     let a = c .before .before .before .args in
-    refused (c .before .before .before .pre) (real-other (soFarAt (a .half .now) (a .sheet .now) (a .types) (a .rows)) (a .order) (c .if1 .taken))
+    refused (c .before .before .before .pre .0) (real-other (soFarAt (a .half .now) (a .sheet .now) (a .types) (a .rows)) (a .order) (c .if1 .taken))
 
 returns-2 : tie.Need-returns-2
 returns-2 c = search (needs, real-judged)

@@ -4,6 +4,7 @@ use borrow.Author.Needs.{needs}
 use Rattle.table.specs.Table.{bytesAt}
 use Rattle.number.specs.Parts.{signedBy}
 use Rattle.sheet_steps.proofs.Added.{refused}
+use Rattle.sheet_steps.proofs.Notes.{newest-marked}
 use Rattle.sheet_steps.proofs.Lines.{value-judged, value-first, value-other, value-refused}
 use Rattle.judging.proofs.judge_value.Statement.{statement}
 use Rattle.judging.proofs.judge_value.Tie as tie
@@ -20,6 +21,11 @@ returns-2 c =
     (value-other (a .types) (a .sheet .now) (bytesAt (a .sheet .now) (a .start) (a .len)) (signedBy (a .negative) (a .distance)) (c .before .before .before .before .before .before .pre .0) (c .before .before .before .if1 .left)
     (λ e. c .if2 .taken (c .before .type-word .ensures .is ∙ e)))
 
+may-list-requires : tie.Need-may-list-requires
+may-list-requires c κs =
+    let s = c .before .before .before .before .before .before .before in
+    (s .pre .2, s .pre .3, newest-marked (s .args .sheet .now) (s .pre .0) (s .pre .1) (c .before .before .before .before .if1 .left))
+
 returns-3 : tie.Need-returns-3
 returns-3 c =
     let a = c .before .before .before .before .before .before .before .before .before .args in
@@ -29,10 +35,11 @@ returns-3 c =
 
 returns-4 : tie.Need-returns-4
 returns-4 c =
-    let a = c .before .before .before .before .before .before .before .before .before .before .before .before .before .before .args in
-    value-judged (a .types) (a .sheet .now) (a .start) (a .len) (a .negative) (a .distance) (c .before .before .before .before .before .before .before .before .before .before .before .before .before .before .pre .0) (c .before .before .before .before .before .before .before .before .before .before .before .if1 .left)
-    (sym (c .before .before .before .before .before .before .before .before .before .type-word .ensures .is) ∙ c .before .before .before .before .before .before .before .before .if2 .left) (c .before .before .before .before .before .before .may-list .ensures) (c .before .before .before .before .before .if3 .left)
-    (c .before .before .before .before .value-record .ensures) (c .before .before .next-row .ensures)
+    let s = c .before .before .before .before .before .before .before .before .before .before .before .before .before .before .before .before .before .before in
+    let a = s .args in
+    value-judged (a .types) (a .sheet .now) (a .start) (a .len) (a .negative) (a .distance) (s .pre .0) (s .pre .1) (c .before .before .before .before .before .before .before .before .before .before .before .before .before .before .before .if1 .left)
+    (sym (c .before .before .before .before .before .before .before .before .before .before .before .before .before .type-word .ensures .is) ∙ c .before .before .before .before .before .before .before .before .before .before .before .before .if2 .left) (c .before .before .before .before .before .before .before .before .before .before .may-list .ensures) (c .before .before .before .before .before .before .before .before .before .if3 .left)
+    (c .before .before .before .before .before .before .before .before .value-record .ensures) (c .before .before .before .before .before .before .next-row .ensures) (c .before .before .put-mark .ensures)
 
 pub judge-value-spec : {M : Type 1} → statement M
 judge-value-spec =
@@ -44,12 +51,14 @@ judge-value-spec =
     (λ c κs. search needs)
     (λ c. search needs)
     returns-2
-    (λ c κs. search needs)
+    may-list-requires
     (λ c. search needs)
     returns-3
     (λ c. search needs)
     (λ c. search needs)
     (λ c κs. search needs)
+    (λ c κs. search needs)
+    (λ c. search needs)
     (λ c κs. search needs)
     (λ c. search needs)
     returns-4)

@@ -24,13 +24,13 @@ enum-known-line-3 c = search needs
 
 sub-judge-value : tie.Need-sub-judge-value
 sub-judge-value c =
-    let h = value-inside _ _ (c .before .before .before .before .before .before .before .pre .1) (c .before .before .line3 .given .1) in
+    let h = value-inside _ _ (c .before .before .before .before .before .before .before .pre .2) (c .before .before .line3 .given .1) in
     omega arith
 
 judge-value-requires : tie.Need-judge-value-requires
 judge-value-requires c κs =
-    let h = value-inside _ _ (c .before .before .before .before .before .before .before .pre .1) (c .before .before .line3 .given .1) in
-    (c .before .before .before .before .before .before .before .pre .0, omega arith, omega arith)
+    let h = value-inside _ _ (c .before .before .before .before .before .before .before .pre .2) (c .before .before .line3 .given .1) in
+    (c .before .before .before .before .before .before .before .pre .0, c .before .before .before .before .before .before .before .pre .1, omega arith, omega arith)
 
 enum-known-line-4 : tie.Need-enum-known-line-4
 enum-known-line-4 c = search needs
@@ -43,13 +43,13 @@ enum-known-line-5 c = search needs
 
 sub-judge-member : tie.Need-sub-judge-member
 sub-judge-member c =
-    let h = member-inside _ _ (c .before .before .before .before .before .before .before .pre .1) (c .before .before .line5 .given .1) in
+    let h = member-inside _ _ (c .before .before .before .before .before .before .before .pre .2) (c .before .before .line5 .given .1) in
     omega arith
 
 judge-member-requires : tie.Need-judge-member-requires
 judge-member-requires c κs =
-    let h = member-inside _ _ (c .before .before .before .before .before .before .before .pre .1) (c .before .before .line5 .given .1) in
-    (c .before .before .before .before .before .before .before .pre .0, omega arith, omega arith)
+    let h = member-inside _ _ (c .before .before .before .before .before .before .before .pre .2) (c .before .before .line5 .given .1) in
+    (c .before .before .before .before .before .before .before .pre .0, c .before .before .before .before .before .before .before .pre .1, omega arith, omega arith)
 
 enum-known-line-6 : tie.Need-enum-known-line-6
 enum-known-line-6 c = search needs
@@ -85,7 +85,7 @@ returns-3 : tie.Need-returns-3
 returns-3 c =
     let l = c .before .before .before .before .before .line3 .given in
     let start = c .before .before .before .before .before .before .before .before .before .before in
-    let h = value-inside _ _ (start .pre .1) (l .1) in
+    let h = value-inside _ _ (start .pre .2) (l .1) in
     rw (l .1, ← (name-bytes (now (start .args .sheet)) (l .0 .0) (l .0 .1 .0 - l .0 .0) (omega arith))) (c .before .before .judge-value .ensures)
 
 same-length-4 : tie.Need-same-length-4
@@ -101,7 +101,7 @@ returns-5 : tie.Need-returns-5
 returns-5 c =
     let l = c .before .before .before .before .before .line5 .given in
     let start = c .before .before .before .before .before .before .before .before .before .before in
-    let h = member-inside _ _ (start .pre .1) (l .1) in
+    let h = member-inside _ _ (start .pre .2) (l .1) in
     rw (l .1, ← (name-bytes (now (start .args .sheet)) (l .0 .0) (l .0 .1 .0 - l .0 .0) (omega arith))) (c .before .before .judge-member .ensures)
 
 same-length-6 : tie.Need-same-length-6

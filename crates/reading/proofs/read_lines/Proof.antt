@@ -14,8 +14,11 @@ Inv-loop t w₀ at₀ n₀ m₀ k₀ w at n m k = Before t w at n m k
 abbrev μ-loop : tie.MeasureT-loop
 μ-loop t w₀ at₀ n₀ m₀ k₀ w at n m k = length t - at
 
+clear-requires : tie.Need-clear-requires Inv-loop μ-loop
+clear-requires c κs = search needs
+
 loop-holds : tie.Need-loop-holds Inv-loop μ-loop
-loop-holds c = first _ _ (c .before .before .pre .1)
+loop-holds c = first _ _ (c .before .half .given .1 ∙ c .before .before .before .before .before .before .pre .1)
 
 read-line-requires : tie.Need-read-line-requires Inv-loop μ-loop
 read-line-requires c κs = search needs
@@ -26,7 +29,7 @@ next-of-requires c κs = search needs
 judge-line-requires : tie.Need-judge-line-requires Inv-loop μ-loop
 judge-line-requires c κs =
     let loop = c .before .before .before .before in
-    (loop .loop .inv .holds, c .before .before .read-line .ensures .within, loop .before .before .before .pre .0)
+    (loop .loop .inv .holds, loop .loop .inv .noted, c .before .before .read-line .ensures .within, loop .before .before .before .before .before .before .before .pre .0)
 
 enum-known-types : tie.Need-enum-known-types Inv-loop μ-loop
 enum-known-types c = search needs
@@ -37,7 +40,7 @@ enum-told c = search needs
 same-length : tie.Need-same-length Inv-loop μ-loop
 same-length c =
     let judged = c .before .before .before .before in
-    judged .judge-line .ensures .words ∙ sym (judged .before .before .before .before .before .before .before .before .pre .1)
+    judged .judge-line .ensures .words ∙ sym (judged .before .before .before .before .before .before .before .before .before .before .before .before .pre .1)
 
 returns : tie.Need-returns Inv-loop μ-loop
 returns c =
@@ -48,7 +51,7 @@ returns c =
 add-k : tie.Need-add-k Inv-loop μ-loop
 add-k c =
     let loop = c .before .before .before .before .before .before .before .before .before .before in
-    omega (arith, loop .loop .inv .counted, loop .before .before .before .pre .0)
+    omega (arith, loop .loop .inv .counted, loop .before .before .before .before .before .before .before .pre .0)
 
 loop-less : tie.Need-loop-less Inv-loop μ-loop
 loop-less c =
@@ -65,13 +68,13 @@ loop-again c =
     (judged .before .before .next-of .ensures)
 
 same-length-2 : tie.Need-same-length-2 Inv-loop μ-loop
-same-length-2 c = c .before .before .loop .inv .holds .words ∙ sym (c .before .before .before .before .before .pre .1)
+same-length-2 c = c .before .before .loop .inv .holds .words ∙ sym (c .before .before .before .before .before .before .before .before .before .pre .1)
 
 returns-2 : tie.Need-returns-2 Inv-loop μ-loop
 returns-2 c = no-line _ _ _ _ _ _ (c .before .before .loop .inv) (omega arith) (c .if1 .taken)
 
 same-length-3 : tie.Need-same-length-3 Inv-loop μ-loop
-same-length-3 c = c .before .before .loop .inv .holds .words ∙ sym (c .before .before .before .before .before .pre .1)
+same-length-3 c = c .before .before .loop .inv .holds .words ∙ sym (c .before .before .before .before .before .before .before .before .before .pre .1)
 
 returns-3 : tie.Need-returns-3 Inv-loop μ-loop
 returns-3 c = all-lines _ _ _ _ _ _ (c .before .before .loop .inv) (omega arith) (c .if1 .left)
@@ -82,6 +85,10 @@ read-lines-spec =
     (tie.spec
     Inv-loop
     μ-loop
+    (λ c. search needs)
+    (λ c. search needs)
+    (λ c. search needs)
+    clear-requires
     loop-holds
     read-line-requires
     next-of-requires
