@@ -57,16 +57,25 @@ fn next_type(half: &mut [u32], types: u32, rows: u32, r: [u32; 16]) -> Judged
     Judged::Accepted(types + 1, rows)
 }
 
-// The record of the next row, one more of the newest type, where there is room for it.
-fn next_row(half: &mut [u32], types: u32, rows: u32, r: [u32; 8]) -> Judged
-    requires { ⌜ Holds (now half) types rows × (0 < types) ⌝ }
-    ensures { λ j. ⌜ RowAdded (now (half .entry)) (now (half .exit)) types rows r j ⌝ }
+// The record of the next row, one more of the newest type, and the mark of its name, where there is room for it.
+fn next_row(
+    half: &mut [u32],
+    sheet: &[u8],
+    types: u32,
+    rows: u32,
+    start: usize,
+    len: usize,
+    r: [u32; 8],
+) -> Judged
+    requires { ⌜ Holds (now half) types rows × (0 < types) × (start < 4294967296) × (len < 4294967296) ⌝ }
+    ensures { λ j. ⌜ RowAdded (now (half .entry)) (now (half .exit)) (bytesAt (now (sheet .entry)) start len) types rows r j ⌝ }
 {
     if MOST_ROWS <= rows {
         return Judged::Refused;
     }
     let i = (types - 1) as usize;
     table::store::add_row(half, i, rows as usize, r);
+    put_mark(half, sheet, start, len, rows + 1);
     Judged::Accepted(types, rows + 1)
 }
 
@@ -164,9 +173,7 @@ pub fn judge_value(
         return Judged::Refused;
     }
     let r = value_record(start as u32, len as u32, negative, distance);
-    let judged = next_row(half, types, rows, r);
-    put_mark(half, sheet, start, len, rows + 1);
-    judged
+    next_row(half, sheet, types, rows, start, len, r)
 }
 
 pub fn judge_compound(half: &mut [u32], sheet: &[u8], types: u32, rows: u32, size: u32) -> Judged
@@ -227,8 +234,7 @@ pub fn judge_member(
         return Judged::Refused;
     }
     let r = member_record(start as u32, len as u32, offset, kind);
-    let judged = next_row(half, types, rows, r);
-    put_mark(half, sheet, start, len, rows + 1);
+    let judged = next_row(half, sheet, types, rows, start, len, r);
     raise_end(half, i, (offset as usize + width) as u32);
     judged
 }

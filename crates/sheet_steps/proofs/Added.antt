@@ -1,5 +1,5 @@
 -- A type or a row was added: the table stands for what the definition gives. Assumes nothing.
-use mathlib.Core.Path.{_≡_, refl, sym, ap, subst, _∙_}
+use mathlib.Core.Path.{_≡_, refl, sym, ap, _∙_}
 use mathlib.Core.Bool.{Bool, true, false, cond}
 use mathlib.Core.List.{List, _∷_}
 use mathlib.Core.Option.{Option, none, some}
@@ -13,6 +13,7 @@ use Rattle.datatype.specs.Datatype.{Datatype}
 use Rattle.table.specs.Table.{classWord, sizeWord, bytesAt, node, typeAt, typesAt, Holds}
 use Rattle.table.specs.Records.{rowAdded}
 use Rattle.table.proofs.Keeps.{add-type, add-row}
+use Rattle.name_marks.specs.Marks.{markPut}
 use Rattle.name_marks.proofs.Free.{free-holds, free-types}
 use Rattle.sheet_steps.specs.declared.Judged.{Judged}
 use Rattle.sheet_steps.specs.declared.Judged.the-variants.{Accepted, Refused}
@@ -21,7 +22,7 @@ use Rattle.sheet_steps.specs.Judged.{soFarAt, Judges}
 use Rattle.sheet_steps.specs.Noted.{Noted}
 use Rattle.sheet_steps.specs.Steps.{TypeAdded, RowAdded}
 use Rattle.sheet_steps.proofs.Numbered.{types-length}
-use Rattle.sheet_steps.proofs.Notes.{noted-type, RowNoted, noted-row}
+use Rattle.sheet_steps.proofs.Notes.{noted-type, RowNoted, mark-noted, EndNoted, row-ended, noted-row}
 
 pub refused : {w : List ℕ} {n m : ℕ} {t : List ℕ} {after : Option SoFar} → Holds w n m → after ≡ none → Judges w t after Refused
 refused h e = record { is = sym e; holds = tt; noted = tt; words = h .words }
@@ -45,19 +46,20 @@ typed {w} {r = r} {n = n} {m = m} t {T} h noted added whole base first rows is =
         }
     go false e = refused h (rw (types-length w t n, e))
 
--- a row was added to w, and its notes to that
-pub rowed : {w v u r : List ℕ} {i m e : ℕ} {j : Judged} (t x : List ℕ) {T : Datatype} → Holds w (suc i) m → Noted w t (suc i) m → RowAdded w v (suc i) m r j
-    → (length v ≡ 4096 → RowNoted v u x m i e) → length r ≡ 8 → bytesAt t (getD r 0 0) (getD r 1 0) ≡ x
+-- a row was added to w, and its end to that
+pub rowed : {w v u x r : List ℕ} {i m e : ℕ} {j : Judged} (t : List ℕ) {T : Datatype} → Holds w (suc i) m → Noted w t (suc i) m → RowAdded w v x (suc i) m r j
+    → (length v ≡ 4096 → EndNoted v u i e) → length r ≡ 8 → bytesAt t (getD r 0 0) (getD r 1 0) ≡ x
     → (classWord w i ≡ 3 → (getD r 3 0 < i) × (getD r 2 0 + sizeWord w (getD r 3 0) ≤ e)) → (m < 256 → node (typeAt w t) (rowAdded w i m r) t i ≡ T)
     → Judges u t (addRow (soFarAt w t (suc i) m) (typesAt w t i) T) j
-rowed {w} {v} {u} {r} {i} {m} {e} t x {T} h noted added row whole name inner is = rw (added .result) (go (ltb m 256) refl (rw sub-one at (added .table)))
+rowed {w} {v} {u} {x} {r} {i} {m} {e} t {T} h noted added ending whole name inner is = rw (added .result) (go (ltb m 256) refl (rw sub-one at (added .table)))
   where
-    go : (b : Bool) → ltb m 256 ≡ b → v ≡ cond b (rowAdded w i m r) w
+    go : (b : Bool) → ltb m 256 ≡ b → v ≡ cond b (markPut (rowAdded w i m r) x (m + 1)) w
         → Judges u t (addRow (soFarAt w t (suc i) m) (typesAt w t i) T) (cond b (Accepted (suc i) (m + 1)) Refused)
     go true b made =
         let grown = add-row (rowAdded w i m r) t r h refl whole (ltb-true _ _ b) (λ c. inner c .0) in
         let held : Holds (rowAdded w i m r) (suc i) (m + 1) = rw (add-one i) at (grown .holds) in
-        let notes : RowNoted (rowAdded w i m r) u x m i e = subst (λ (y : List ℕ). RowNoted y u x m i e) made (row (ap length made ∙ held .words)) in
+        let marked : RowNoted (rowAdded w i m r) v x m i 0 = rw made (mark-noted (rowAdded w i m r) x m i (held .words)) in
+        let notes = row-ended marked (ending (sym (marked .long) ∙ held .words)) in
         record {
           is =
               rw b
@@ -70,4 +72,4 @@ rowed {w} {v} {u} {r} {i} {m} {e} t x {T} h noted added row whole name inner is 
         }
     go false b made =
         let long : length v ≡ 4096 = ap length made ∙ h .words in
-        record { is = rw b; holds = tt; noted = tt; words = sym (row long .long) ∙ long }
+        record { is = rw b; holds = tt; noted = tt; words = sym (ending long .long) ∙ long }

@@ -94,35 +94,46 @@ module _ (w x : List ℕ) (m i : ℕ) (words : length w ≡ 4096) where
         end = omega arith;
       }
 
-module _ {w v x : List ℕ} {m i : ℕ} (e : ℕ) (few : i < 64) (words : length w ≡ 4096) (noted : RowNoted w v x m i 0) where
-  pub end-noted : RowNoted w (endRaised v i e) x m i e
-  unfolding endRaised
-  end-noted = go (leb e (endWord v i)) refl
-    where
-      u : List ℕ
-      u = set v (3584 + i) e
+-- u is v but for the end of type i, which is not before e
+pub record EndNoted (v u : List ℕ) (i e : ℕ) : Type 0 where
+  pub long : length v ≡ length u
+  pub same : (k : ℕ) → (k ≡ 3584 + i → ⊥) → getD u k 0 ≡ getD v k 0
+  pub ends : endWord v i ≤ endWord u i
+  pub end : e ≤ endWord u i
 
-      at : (k : ℕ) → (k ≡ 3584 + i → ⊥) → getD u k 0 ≡ getD v k 0
-      at k ne = getD-set-other v (3584 + i) k e 0 ne
+pub end-kept : (v : List ℕ) (i : ℕ) → EndNoted v v i 0
+end-kept v i = record { long = refl; same = λ k ne. refl; ends = omega arith; end = omega arith }
 
-      mark : (y : List ℕ) → markWord u y ≡ markWord v y
-      mark y = at (3072 + markOf y) (λ z. omega (arith, mark-small 0 y (omega arith)))
+pub end-raised : (v : List ℕ) (i e : ℕ) → i < 64 → length v ≡ 4096 → EndNoted v (endRaised v i e) i e
+unfolding endRaised
+end-raised v i e few words = go (leb e (endWord v i)) refl
+  where
+    last : endWord (set v (3584 + i) e) i ≡ e
+    last = getD-set-same v (3584 + i) e 0 (omega arith)
 
-      last : endWord u i ≡ e
-      last = getD-set-same v (3584 + i) e 0 (omega (arith, noted .long))
+    go : (b : Bool) → leb e (endWord v i) ≡ b → EndNoted v (cond b v (set v (3584 + i) e)) i e
+    go true t = record { long = refl; same = λ k ne. refl; ends = omega arith; end = leb-true e (endWord v i) t }
+    go false t =
+        record {
+          long = sym (length-set v (3584 + i) e);
+          same = λ k ne. getD-set-other v (3584 + i) k e 0 ne;
+          ends = rw last (omega (arith, leb-false e (endWord v i) t));
+          end = rw last (omega arith);
+        }
 
-      go : (b : Bool) → leb e (endWord v i) ≡ b → RowNoted w (cond b v (set v (3584 + i) e)) x m i e
-      go true t =
-          record { long = noted .long; same = noted .same; mark = noted .mark; marks = noted .marks; ends = noted .ends; end = leb-true e (endWord v i) t }
-      go false t =
-          record {
-            long = noted .long ∙ sym (length-set v (3584 + i) e);
-            same = λ k h. noted .same k h ∙ sym (at k (λ z. omega arith));
-            mark = rw (mark x) (noted .mark);
-            marks = λ j y a b. rw (mark y) (noted .marks j y a b);
-            ends = rw last (omega (arith, noted .ends, leb-false e (endWord v i) t));
-            end = rw last (omega arith);
-          }
+pub row-ended : {w v u x : List ℕ} {m i e : ℕ} → RowNoted w v x m i 0 → EndNoted v u i e → RowNoted w u x m i e
+row-ended {v = v} {u = u} {x = x} {i = i} row ending =
+    record {
+      long = row .long ∙ ending .long;
+      same = λ k h. row .same k h ∙ sym (ending .same k (λ z. omega arith));
+      mark = rw (mark x) (row .mark);
+      marks = λ j y a b. rw (mark y) (row .marks j y a b);
+      ends = omega (arith, row .ends, ending .ends);
+      end = ending .end;
+    }
+  where
+    mark : (y : List ℕ) → markWord u y ≡ markWord v y
+    mark y = ending .same (3072 + markOf y) (λ z. omega (arith, mark-small 0 y (omega arith)))
 
 module _ {w v : List ℕ} {i m e : ℕ} (t r x : List ℕ) (h : Holds w (suc i) m) (noted : Noted w t (suc i) m) (whole : length r ≡ 8) (room : m < 256)
     (inner : classWord w i ≡ 3 → getD r 3 0 < i) (name : bytesAt t (getD r 0 0) (getD r 1 0) ≡ x) (end : classWord w i ≡ 3 → getD r 2 0 + sizeWord w (getD r 3 0) ≤ e)

@@ -50,18 +50,15 @@ returns-4 c =
     (sym (c .before .before .before .before .before .before .type-word .ensures .is) ∙ c .before .before .before .before .before .if3 .left) (c .before .before .before .type-word2 .ensures .is) (c .before .may-add .ensures .0) (c .if4 .taken))
 
 cast-raise-end : tie.Need-cast-raise-end
-cast-raise-end c = omega (arith, c .before .before .before .before .before .before .before .before .before .before .before .may-add .ensures .1 (not-false _ (c .before .before .before .before .before .before .before .before .before .before .if4 .left)))
-
-raise-end-requires : tie.Need-raise-end-requires
-raise-end-requires c κs = (omega (arith, c .before .before .half2 .given, c .before .before .before .before .before .before .half .given, c .before .before .before .before .before .before .before .before .before .before .before .before .before .before .before .before .before .before .before .before .before .before .pre .0 .words), omega (arith, c .before .before .before .before .before .before .before .before .before .before .before .before .before .before .before .before .before .before .before .before .before .before .pre .0 .types, c .before .before .before .before .before .before .before .before .before .before .before .before .before .before .before .before .before .before .before .if1 .left))
+cast-raise-end c = omega (arith, c .before .before .before .before .before .before .before .may-add .ensures .1 (not-false _ (c .before .before .before .before .before .before .if4 .left)))
 
 returns-5 : tie.Need-returns-5
 returns-5 c =
-    let s = c .before .before .before .before .before .before .before .before .before .before .before .before .before .before .before .before .before .before .before .before .before .before .before .before .before in
+    let s = c .before .before .before .before .before .before .before .before .before .before .before .before .before .before .before .before .before .before .before .before .before in
     let a = s .args in
-    member-judged (a .types) (a .sheet .now) (a .start) (a .len) (a .offset) (a .kind) (s .pre .0) (s .pre .1) (c .before .before .before .before .before .before .before .before .before .before .before .before .before .before .before .before .before .before .before .before .before .before .if1 .left) (c .before .before .before .before .before .before .before .before .before .before .before .before .before .before .before .before .before .before .before .before .before .if2 .left)
-    (sym (c .before .before .before .before .before .before .before .before .before .before .before .before .before .before .before .before .before .before .before .type-word .ensures .is) ∙ c .before .before .before .before .before .before .before .before .before .before .before .before .before .before .before .before .before .before .if3 .left) (c .before .before .before .before .before .before .before .before .before .before .before .before .before .before .before .before .type-word2 .ensures .is) (c .before .before .before .before .before .before .before .before .before .before .before .before .before .before .may-add .ensures .0) (c .before .before .before .before .before .before .before .before .before .before .before .before .before .if4 .left)
-    (c .before .before .before .before .before .before .before .before .before .before .before .before .member-record .ensures) (c .before .before .before .before .before .before .before .before .before .before .next-row .ensures) (c .before .before .before .before .before .before .put-mark .ensures) (c .before .before .raise-end .ensures)
+    member-judged (a .types) (a .sheet .now) (a .start) (a .len) (a .offset) (a .kind) (s .pre .0) (s .pre .1) (c .before .before .before .before .before .before .before .before .before .before .before .before .before .before .before .before .before .before .if1 .left) (c .before .before .before .before .before .before .before .before .before .before .before .before .before .before .before .before .before .if2 .left)
+    (sym (c .before .before .before .before .before .before .before .before .before .before .before .before .before .before .before .type-word .ensures .is) ∙ c .before .before .before .before .before .before .before .before .before .before .before .before .before .before .if3 .left) (c .before .before .before .before .before .before .before .before .before .before .before .before .type-word2 .ensures .is) (c .before .before .before .before .before .before .before .before .before .before .may-add .ensures .0) (c .before .before .before .before .before .before .before .before .before .if4 .left)
+    (c .before .before .before .before .before .before .before .before .member-record .ensures) (c .before .before .before .before .before .before .next-row .ensures) (c .before .before .raise-end .ensures)
 
 pub judge-member-spec : {M : Type 1} → statement M
 judge-member-spec =
@@ -84,9 +81,7 @@ judge-member-spec =
     (λ c κs. search needs)
     (λ c κs. search needs)
     (λ c. search needs)
-    (λ c κs. search needs)
-    (λ c. search needs)
     cast-raise-end
-    raise-end-requires
+    (λ c κs. search needs)
     (λ c. search needs)
     returns-5)

@@ -35,11 +35,11 @@ returns-3 c =
 
 returns-4 : tie.Need-returns-4
 returns-4 c =
-    let s = c .before .before .before .before .before .before .before .before .before .before .before .before .before .before .before .before .before .before in
+    let s = c .before .before .before .before .before .before .before .before .before .before .before .before .before .before in
     let a = s .args in
-    value-judged (a .types) (a .sheet .now) (a .start) (a .len) (a .negative) (a .distance) (s .pre .0) (s .pre .1) (c .before .before .before .before .before .before .before .before .before .before .before .before .before .before .before .if1 .left)
-    (sym (c .before .before .before .before .before .before .before .before .before .before .before .before .before .type-word .ensures .is) ∙ c .before .before .before .before .before .before .before .before .before .before .before .before .if2 .left) (c .before .before .before .before .before .before .before .before .before .before .may-list .ensures) (c .before .before .before .before .before .before .before .before .before .if3 .left)
-    (c .before .before .before .before .before .before .before .before .value-record .ensures) (c .before .before .before .before .before .before .next-row .ensures) (c .before .before .put-mark .ensures)
+    value-judged (a .types) (a .sheet .now) (a .start) (a .len) (a .negative) (a .distance) (s .pre .0) (s .pre .1) (c .before .before .before .before .before .before .before .before .before .before .before .if1 .left)
+    (sym (c .before .before .before .before .before .before .before .before .before .type-word .ensures .is) ∙ c .before .before .before .before .before .before .before .before .if2 .left) (c .before .before .before .before .before .before .may-list .ensures) (c .before .before .before .before .before .if3 .left)
+    (c .before .before .before .before .value-record .ensures) (c .before .before .next-row .ensures)
 
 pub judge-value-spec : {M : Type 1} → statement M
 judge-value-spec =
@@ -57,8 +57,6 @@ judge-value-spec =
     (λ c. search needs)
     (λ c. search needs)
     (λ c κs. search needs)
-    (λ c κs. search needs)
-    (λ c. search needs)
     (λ c κs. search needs)
     (λ c. search needs)
     returns-4)
