@@ -1,18 +1,15 @@
 // Which rows of a destination enum stand for which significant bits of a source enum: worked out once a call, so that no name is compared in a record.
 ghost use mathlib.Core.Path.{_≡_};
-ghost use Prim.Native.Nat.{_+_, _^_, _≤_, _<_, min, max};
-ghost use lib.ListN.{length};
+ghost use Prim.Native.Nat.{ℕ, _+_, _^_, _≤_, _<_, min, max};
+ghost use lib.ListN.{length, getD};
 ghost use Rattle.table.specs.Table.{firstWord, rowsWord, layoutAt, nameAt};
 ghost use Rattle.table.specs.Rows.{rowNamed};
-ghost use Rattle.plans.specs.PlanWords.{RowsWithin, numberRow, rowCode, translatedCode};
-ghost use Rattle.plans.specs.Spans.{RowsIn, SymbolsFormed, SpanPut};
+ghost use Rattle.plans.specs.PlanWords.{RowsWithin, rowCode};
+ghost use Rattle.plans.specs.Spans.{RowsIn, SymbolsFormed, WordsPut, SpanPut, CodePut};
 ghost use Rattle.enum_spans.specs.Span.{SpanFound};
-use number::sign::number_of;
-use number::sign::split;
 use row_codes::symbol_rows;
 use row_codes::value_bits;
 use row_lookup::row_named;
-use row_lookup::row_numbered;
 use table::FIRST;
 use table::Found;
 use table::NAME;
@@ -53,18 +50,6 @@ fn greatest(a: u64, b: u64) -> u64
     if a < b { b } else { a }
 }
 
-// The row of the source type whose number these significant bits stand for.
-fn number_row(source_half: &[u32], source_type: usize, raw: u64) -> Found
-    requires { ⌜ SymbolsFormed (now «source_half») «source_type» × (raw < 2 ^ layoutAt (now «source_half») «source_type» .precision) ⌝ }
-    ensures { λ r. ⌜ r ≡ numberRow (now («source_half» .entry)) «source_type» raw ⌝ }
-{
-    let l = layout_at(source_half, source_type);
-    let first = type_word(source_half, source_type, FIRST);
-    let rows = symbol_rows(source_half, source_type);
-    let z = split(number_of(l.signed, l.precision, raw));
-    row_numbered(source_half, first, rows, z.negative, z.distance)
-}
-
 // The row of the destination enum that has the name of a source row, in one word.
 fn named_row(
     source_half: &[u32],
@@ -91,32 +76,6 @@ fn named_row(
         len,
     ) {
         Found::At(found) => found as u32 + 1,
-        Found::Missing => 0,
-    }
-}
-
-// The row of the destination enum for significant bits of the source type, in one word.
-pub fn translated(
-    source_half: &[u32],
-    source_sheet: &[u8],
-    destination_half: &[u32],
-    destination_sheet: &[u8],
-    source_type: usize,
-    destination_type: usize,
-    raw: u64,
-) -> u32
-    requires { ⌜ SymbolsFormed (now «source_half») «source_type» × RowsWithin (now «destination_half») «destination_type» × (raw < 2 ^ layoutAt (now «source_half») «source_type» .precision) ⌝ }
-    ensures { λ r. ⌜ r ≡ translatedCode (now («source_half» .entry)) (now («source_sheet» .entry)) (now («destination_half» .entry)) (now («destination_sheet» .entry)) «source_type» «destination_type» raw ⌝ }
-{
-    match number_row(source_half, source_type, raw) {
-        Found::At(row) => named_row(
-            source_half,
-            source_sheet,
-            destination_half,
-            destination_sheet,
-            destination_type,
-            row,
-        ),
         Found::Missing => 0,
     }
 }
@@ -165,6 +124,69 @@ pub fn span_of(source_half: &[u32], source_type: usize, room: usize) -> Span
     Span::Of(low as u32, (end - low) as u32)
 }
 
+// Words of no symbol, as many as `count` from word `base` on.
+fn clear(words: &mut [u32], base: usize, count: usize)
+    requires { ⌜ base + count ≤ length (now words) ⌝ }
+    ensures { λ _. ⌜ WordsPut (now (words .entry)) base count (λ q. 0) (now (words .exit)) ⌝ }
+{
+    let mut q: usize = 0;
+    while q < count {
+        words[base + q] = 0;
+        q += 1;
+    }
+}
+
+// The word for these bits, where they are among the `count` from `low` on, whose words stand from word `base` on.
+fn put_code(words: &mut [u32], base: usize, low: u64, count: usize, bits: u64, code: u32)
+    requires { ⌜ base + count ≤ length (now words) ⌝ }
+    ensures { λ _. ⌜ CodePut (now (words .entry)) base low count bits code (now (words .exit)) ⌝ }
+{
+    if bits < low {
+        return;
+    }
+    let q = (bits - low) as usize;
+    if count <= q {
+        return;
+    }
+    words[base + q] = code;
+}
+
+// The rows of the destination enum, into words of no symbol: one row of the source type after the other, so that the newest of a number's rows stays.
+fn put_symbols(
+    words: &mut [u32],
+    base: usize,
+    low: u32,
+    count: u32,
+    source_half: &[u32],
+    source_sheet: &[u8],
+    destination_half: &[u32],
+    destination_sheet: &[u8],
+    source_type: usize,
+    destination_type: usize,
+)
+    requires { ⌜ SymbolsFormed (now «source_half») «source_type» × RowsWithin (now «destination_half») «destination_type» × (low + count ≤ 2 ^ layoutAt (now «source_half») «source_type» .precision) × (base + count ≤ length (now words)) × ((q : ℕ) → q < count → getD (now words) (base + q) 0 ≡ 0) ⌝ }
+    ensures { λ _. ⌜ SpanPut (now (words .entry)) base low count (now («source_half» .entry)) (now («source_sheet» .entry)) (now («destination_half» .entry)) (now («destination_sheet» .entry)) «source_type» «destination_type» (now (words .exit)) ⌝ }
+{
+    let l = layout_at(source_half, source_type);
+    let first = type_word(source_half, source_type, FIRST);
+    let rows = symbol_rows(source_half, source_type);
+    let mut i: usize = 0;
+    while i < rows {
+        let row = first + i;
+        let bits = value_bits(source_half, row, l.precision);
+        let code = named_row(
+            source_half,
+            source_sheet,
+            destination_half,
+            destination_sheet,
+            destination_type,
+            row,
+        );
+        put_code(words, base, low as u64, count as usize, bits, code);
+        i += 1;
+    }
+}
+
 // The rows of the destination enum for `count` significant bits of the source type from `low` on, from word `base` on.
 pub fn put_span(
     words: &mut [u32],
@@ -181,17 +203,17 @@ pub fn put_span(
     requires { ⌜ SymbolsFormed (now «source_half») «source_type» × RowsWithin (now «destination_half») «destination_type» × (low + count ≤ 2 ^ layoutAt (now «source_half») «source_type» .precision) × (base + count ≤ length (now words)) ⌝ }
     ensures { λ _. ⌜ SpanPut (now (words .entry)) base low count (now («source_half» .entry)) (now («source_sheet» .entry)) (now («destination_half» .entry)) (now («destination_sheet» .entry)) «source_type» «destination_type» (now (words .exit)) ⌝ }
 {
-    let mut q: usize = 0;
-    while q < count as usize {
-        words[base + q] = translated(
-            source_half,
-            source_sheet,
-            destination_half,
-            destination_sheet,
-            source_type,
-            destination_type,
-            low as u64 + q as u64,
-        );
-        q += 1;
-    }
+    clear(words, base, count as usize);
+    put_symbols(
+        words,
+        base,
+        low,
+        count,
+        source_half,
+        source_sheet,
+        destination_half,
+        destination_sheet,
+        source_type,
+        destination_type,
+    );
 }

@@ -7,6 +7,7 @@ use Prim.Native.Nat.{ℕ, zero, suc, _+_, _*_, _-_, _^_, _≤_, _<_, min, max}
 use native.Mathlib.Nat.{le-refl, lt-of-not-le, eq-or-lt-of-le}
 use native.Mathlib.Decide.{decLe}
 use native.Mathlib.Omega.{arith}
+use native.Mathlib.Numerals.{add-one}
 use lib.Dec.{eqb, leb, ltb}
 use lib.IntN.{ℤ}
 use lib.ListN.{length, getD, set, length-set, replicate}
@@ -15,16 +16,13 @@ use borrow.Author.Count.{below-more}
 use borrow.Author.Tests.{eqb-true, eq-eqb, ne-eqb, leb-true, ltb-true, le-leb, lt-ltb}
 use Rattle.layout.specs.declared.Layout.{Layout}
 use Rattle.layout.specs.Layout.{valid, Valid}
-use Rattle.number.specs.declared.Number.{Number}
-use Rattle.number.specs.declared.Parts.{Parts}
 use Rattle.number.specs.declared.Fitted.{Fitted}
 use Rattle.number.specs.Number.{valued, bitsOf}
-use Rattle.number.specs.Parts.{meaning, signedBy}
 use Rattle.number.proofs.Range.{valued-low, valued-high}
-use Rattle.number.proofs.RoundTrip.{fitted-lt}
+use Rattle.number.proofs.RoundTrip.{fitted-lt, fitted-back}
 use Rattle.datatype.specs.Symbols.{sameNumber}
 use Rattle.datatype.specs.WellFormed.{WellFormedLeaf, Symbols}
-use Rattle.datatype.proofs.Tests.{sameNumber→eq}
+use Rattle.datatype.proofs.Tests.{sameNumber→eq, sameNumber-refl}
 use Rattle.table.specs.declared.Found.{Found}
 use Rattle.table.specs.declared.Found.the-variants.{At, Missing}
 use Rattle.table.specs.Table.{rowWord, classWord, firstWord, rowsWord, flagOf, layoutAt, bytesAt, nameAt, valueAt, symbolsAt}
@@ -39,7 +37,7 @@ use Rattle.easy.proofs.Easy.{shift-small, order-small}
 use Rattle.easy.proofs.Words.{words-length, words-below, words-above, words-at, easy-stands, easy-route}
 use Rattle.plans.specs.PlanWords.{RowsWithin, symbolRows, numberRow, rowCode, namedCode, translatedCode, sourceType, destinationType, wordsPlace, isReal, oneReal, spanCode, EnumAt, RealAt}
 use Rattle.plans.specs.PlanEntries.{PairFormed, wholeWords, realWords, plainWords, Standing, EntryPut}
-use Rattle.plans.specs.Spans.{RowsIn, SymbolsFormed, SpanOf, SpanPut, SpanWord, EntryRoom, AllStanding}
+use Rattle.plans.specs.Spans.{RowsIn, RowsBack, SymbolsFormed, SpanOf, WordsPut, SpanPut, codeAmong, CodePut, SpanWord, EntryRoom, AllStanding}
 use Rattle.plans.proofs.Names.{numbered-within, named-within}
 use Rattle.plans.proofs.LeafSteps.{leaf-enum, leaf-valid, inside-bits}
 
@@ -66,17 +64,6 @@ pub named-code : (ws ts wd td : List ℕ) (d j : ℕ) {first rows start len : �
     → Reads (rowWord ws j 0) start → Reads (rowWord ws j 1) len → f ≡ rowNamed wd td (bytesAt ts start len) first rows
     → rowCode f ≡ rowCode (rowNamed wd td (nameAt ws ts j) (firstWord wd d) (rowsWord wd d))
 named-code ws ts wd td d j rf rr rs rl e = rw (← (rf .is), ← (rr .is), ← (rs .is), ← (rl .is), e)
-
--- the row by its number
-pub number-found : (ws : List ℕ) (s raw : ℕ) {first rows : ℕ} {l : Layout} (n : Number) (z : Parts) {f : Found} → Reads (firstWord ws s) first
-    → (rows ≡ symbolRows ws s) × (rows < 4294967296) → l ≡ layoutAt ws s → meaning n ≡ valued (l .signed) (l .precision) raw
-    → meaning n ≡ signedBy (z .negative) (z .distance) → f ≡ rowNumbered ws (signedBy (z .negative) (z .distance)) first rows → f ≡ numberRow ws s raw
-unfolding numberRow
-number-found ws s raw n z rf rr el hn hz e = e ∙ rw (← (rf .is), ← (rr .0), ← el, ← hn, hz)
-
-pub code-is : (ws ts wd td : List ℕ) (s d raw : ℕ) {f g : Found} → f ≡ numberRow ws s raw → f ≡ g → namedCode ws ts wd td d g ≡ translatedCode ws ts wd td s d raw
-unfolding translatedCode
-code-is ws ts wd td s d raw e q = ap (namedCode ws ts wd td d) (sym q ∙ e)
 
 -- ---- significant bits of symbols
 
@@ -111,17 +98,34 @@ listed-bits l w t first (suc n) some h q low =
     (λ (less : q < n). listed-bits l w t first n some (h .1) q less)
     (eq-or-lt-of-le (omega arith))
 
+listed-back : (l : Layout) (w t : List ℕ) (first n : ℕ) → 1 ≤ l .precision → Symbols l (symbolsAt w t first n) → RowsBack w l first n
+unfolding symbolsAt
+listed-back l w t first zero some h q low = absurd (omega arith)
+listed-back l w t first (suc n) some h q low =
+    ⊎-elim
+    (λ (e : q ≡ n).
+    rw e
+    (ap (λ (f : Fitted). valued (l .signed) (l .precision) (f .raw)) (inside-bits l (valueAt w (first + n)) (h .0 .in-range))
+    ∙ fitted-back (l .signed) (l .precision) (valueAt w (first + n)) some (h .0 .in-range)))
+    (λ (less : q < n). listed-back l w t first n some (h .1) q less)
+    (eq-or-lt-of-le (omega arith))
+
 pub symbols-formed : (ws ts wd td : List ℕ) (s d : ℕ) → PairFormed ws ts wd td s d → SymbolsFormed ws s
 unfolding symbolRows
 symbols-formed ws ts wd td s d f =
     let v = leaf-valid ws ts s (f .source) in
-    record { within = f .sourceRows; some = v .some; most = v .most; bits = go (eqb (classWord ws s) 2) refl }
+    record { within = f .sourceRows; some = v .some; most = v .most; bits = in-range (eqb (classWord ws s) 2) refl; numbers = back (eqb (classWord ws s) 2) refl }
   where
-    go : (b : Bool) → eqb (classWord ws s) 2 ≡ b → RowsIn ws (layoutAt ws s .precision) (firstWord ws s) (cond b (rowsWord ws s) 0) 0 (2 ^ layoutAt ws s .precision)
-    go true e =
-        listed-bits (layoutAt ws s) ws ts (firstWord ws s) (rowsWord ws s) (leaf-valid ws ts s (f .source) .some)
-        (subst WellFormedLeaf (leaf-enum ws ts s (eqb-true (classWord ws s) 2 e)) (f .source) .symbols)
-    go false e = λ q low. absurd (omega arith)
+    listed : eqb (classWord ws s) 2 ≡ true → Symbols (layoutAt ws s) (symbolsAt ws ts (firstWord ws s) (rowsWord ws s))
+    listed e = subst WellFormedLeaf (leaf-enum ws ts s (eqb-true (classWord ws s) 2 e)) (f .source) .symbols
+
+    in-range : (b : Bool) → eqb (classWord ws s) 2 ≡ b → RowsIn ws (layoutAt ws s .precision) (firstWord ws s) (cond b (rowsWord ws s) 0) 0 (2 ^ layoutAt ws s .precision)
+    in-range true e = listed-bits (layoutAt ws s) ws ts (firstWord ws s) (rowsWord ws s) (leaf-valid ws ts s (f .source) .some) (listed e)
+    in-range false e = λ q low. absurd (omega arith)
+
+    back : (b : Bool) → eqb (classWord ws s) 2 ≡ b → RowsBack ws (layoutAt ws s) (firstWord ws s) (cond b (rowsWord ws s) 0)
+    back true e = listed-back (layoutAt ws s) ws ts (firstWord ws s) (rowsWord ws s) (leaf-valid ws ts s (f .source) .some) (listed e)
+    back false e = λ q low. absurd (omega arith)
 
 pub pair-valid : (ws ts wd td : List ℕ) (s d : ℕ) → PairFormed ws ts wd td s d → Valid (layoutAt ws s) × Valid (layoutAt wd d)
 pair-valid ws ts wd td s d f = (leaf-valid ws ts s (f .source), leaf-valid wd td d (f .destination))
@@ -153,8 +157,8 @@ module _ (w : List ℕ) (k : ℕ) {first rows : ℕ} {l : Layout} (rf : Reads (f
     told : RowsIn w (layoutAt w k .precision) (firstWord w k) (symbolRows w k) low end
     told = rw (← el, ← (rf .is), ← (rr .0)) all
 
-    pub span-some : (room : ℕ) {most : ℕ} → low ≤ end → end ≤ 2 ^ l .precision → most ≡ min room 256 → end - low ≤ most → SpanOf w k room low (end - low)
-    span-some room some inside e few =
+    pub span-some : (room bound : ℕ) {most : ℕ} → low ≤ end → end ≤ 2 ^ l .precision → most ≡ min room bound → end - low ≤ most → SpanOf w k room low (end - low)
+    span-some room bound some inside e few =
         record {
           few = omega arith;
           inside = rw (← el) (omega arith);
@@ -171,15 +175,17 @@ module _ (w : List ℕ) (k : ℕ) {first rows : ℕ} {l : Layout} (rf : Reads (f
 
 -- ---- the words of a span
 
-pub span-begins : (before : List ℕ) (base low : ℕ) (ws ts wd td : List ℕ) (s d : ℕ) → SpanPut before base low 0 ws ts wd td s d before
-span-begins before base low ws ts wd td s d = record { each = λ q h. absurd (omega arith); below = λ j h. refl; above = λ j h. refl; long = refl }
+-- none is put
+pub words-begin : (before : List ℕ) (base : ℕ) (value : ℕ → ℕ) → WordsPut before base 0 value before
+words-begin before base value = record { each = λ q h. absurd (omega arith); below = λ j h. refl; above = λ j h. refl; long = refl }
 
-pub span-more : (before : List ℕ) (base low q : ℕ) (ws ts wd td : List ℕ) (s d : ℕ) (mid : List ℕ) {v : ℕ} → SpanPut before base low q ws ts wd td s d mid → base + q < length mid
-    → v ≡ translatedCode ws ts wd td s d (low + q) → SpanPut before base low (q + 1) ws ts wd td s d (set mid (base + q) v)
-span-more before base low q ws ts wd td s d mid {v} p room e =
+-- one word more
+pub words-more : (before : List ℕ) (base q : ℕ) (value : ℕ → ℕ) (mid : List ℕ) {v : ℕ} → WordsPut before base q value mid → base + q < length mid → v ≡ value q
+    → WordsPut before base (q + 1) value (set mid (base + q) v)
+words-more before base q value mid {v} p room e =
     record {
       each =
-          below-more (λ (i : ℕ). getD (set mid (base + q) v) (base + i) 0 ≡ translatedCode ws ts wd td s d (low + i)) q
+          below-more (λ (i : ℕ). getD (set mid (base + q) v) (base + i) 0 ≡ value i) q
           (λ i h. getD-set-other mid (base + q) (base + i) v 0 (λ g. omega (arith, g)) ∙ p .each i h)
           (getD-set-same mid (base + q) v 0 room ∙ e);
       below = λ j h. getD-set-other mid (base + q) j v 0 (λ g. omega (arith, g)) ∙ p .below j h;
@@ -187,11 +193,115 @@ span-more before base low q ws ts wd td s d mid {v} p room e =
       long = length-set mid (base + q) v ∙ p .long;
     }
 
-pub span-all : (before : List ℕ) (base low : ℕ) (ws ts wd td : List ℕ) (s d : ℕ) (after : List ℕ) {q count : ℕ} → q ≤ count → count ≤ q → SpanPut before base low q ws ts wd td s d after
-    → SpanPut before base low count ws ts wd td s d after
-span-all before base low ws ts wd td s d after {q} {count} most least p =
+pub words-all : (before : List ℕ) (base : ℕ) (value : ℕ → ℕ) (after : List ℕ) {q count : ℕ} → q ≤ count → count ≤ q → WordsPut before base q value after → WordsPut before base count value after
+words-all before base value after {q} {count} most least p =
     let e : q ≡ count = omega arith in
-    subst (λ (n : ℕ). SpanPut before base low n ws ts wd td s d after) e p
+    subst (λ (n : ℕ). WordsPut before base n value after) e p
+
+-- put again, by what stands there
+pub words-again : (before : List ℕ) (base count : ℕ) (was value : ℕ → ℕ) (mid after : List ℕ) {new : ℕ → ℕ} → WordsPut before base count was mid → WordsPut mid base count new after
+    → ((q : ℕ) → q < count → getD mid (base + q) 0 ≡ was q → new q ≡ value q) → WordsPut before base count value after
+words-again before base count was value mid after p r same =
+    record {
+      each = λ q h. r .each q h ∙ same q h (p .each q h);
+      below = λ j h. r .below j h ∙ p .below j h;
+      above = λ j h. r .above j h ∙ p .above j h;
+      long = r .long ∙ p .long;
+    }
+
+-- bits outside the span, and one of its bits
+pub code-outside : (before : List ℕ) (base low count bits code : ℕ) → ((q : ℕ) → q < count → low + q ≡ bits → ⊥) → CodePut before base low count bits code before
+code-outside before base low count bits code out =
+    record { each = λ q h. rw (ne-eqb (low + q) bits (out q h)); below = λ j h. refl; above = λ j h. refl; long = refl }
+
+pub code-inside : (before : List ℕ) (base low count bits code : ℕ) → base + count ≤ length before → low ≤ bits → bits - low < count
+    → CodePut before base low count bits code (set before (base + (bits - low)) code)
+code-inside before base low count bits code room least most =
+    record {
+      each = λ q h. here q h (eqb (low + q) bits) refl;
+      below = λ j h. getD-set-other before (base + (bits - low)) j code 0 (λ g. omega (arith, g));
+      above = λ j h. getD-set-other before (base + (bits - low)) j code 0 (λ g. omega (arith, g));
+      long = length-set before (base + (bits - low)) code;
+    }
+  where
+    here : (q : ℕ) → q < count → (b : Bool) → eqb (low + q) bits ≡ b → getD (set before (base + (bits - low)) code) (base + q) 0 ≡ cond b code (getD before (base + q) 0)
+    here q h true e =
+        let g = eqb-true (low + q) bits e in
+        let at : base + q ≡ base + (bits - low) = omega (arith, g) in
+        rw at (getD-set-same before (base + (bits - low)) code 0 (omega arith))
+    here q h false e = getD-set-other before (base + (bits - low)) (base + q) code 0 (λ g. false≢true (sym e ∙ eq-eqb (low + q) bits (omega (arith, g))))
+
+-- ---- the rows of a span, oldest first
+
+-- bits stand for the number of a symbol exactly where they are its bits
+number-tested : (w : List ℕ) (k q raw : ℕ) → SymbolsFormed w k → q < symbolRows w k → raw < 2 ^ layoutAt w k .precision
+    → sameNumber (valued (layoutAt w k .signed) (layoutAt w k .precision) raw) (valueAt w (firstWord w k + q)) ≡ eqb raw (bitsOf (layoutAt w k .precision) (valueAt w (firstWord w k + q)))
+number-tested w k q raw f low fits = go (eqb raw bits) refl
+  where
+    z : ℤ
+    z = valued (layoutAt w k .signed) (layoutAt w k .precision) raw
+
+    v : ℤ
+    v = valueAt w (firstWord w k + q)
+
+    bits : ℕ
+    bits = bitsOf (layoutAt w k .precision) v
+
+    differ : (t : Bool) → sameNumber z v ≡ t → (raw ≡ bits → ⊥) → t ≡ false
+    differ true e not =
+        absurd (not (sym (valued-back (layoutAt w k .signed) (layoutAt w k .precision) raw fits) ∙ ap (bitsOf (layoutAt w k .precision)) (sameNumber→eq z v e)))
+    differ false e not = refl
+
+    go : (b : Bool) → eqb raw bits ≡ b → sameNumber z v ≡ b
+    go true e =
+        let is : z ≡ v = ap (valued (layoutAt w k .signed) (layoutAt w k .precision)) (eqb-true raw bits e) ∙ f .numbers q low in
+        ap (λ (y : ℤ). sameNumber y v) is ∙ sameNumber-refl v
+    go false e = differ (sameNumber z v) refl (λ g. false≢true (sym e ∙ eq-eqb raw bits g))
+
+-- no rows
+pub among-none : (ws ts wd td : List ℕ) (s d raw : ℕ) → codeAmong ws ts wd td s d 0 raw ≡ 0
+unfolding codeAmong rowNumbered
+among-none ws ts wd td s d raw = refl
+
+-- one row more, whose bits and whose row in the destination are these
+among-more : (ws ts wd td : List ℕ) (s d n raw : ℕ) → SymbolsFormed ws s → n < symbolRows ws s → raw < 2 ^ layoutAt ws s .precision
+    → cond (eqb raw (bitsOf (layoutAt ws s .precision) (valueAt ws (firstWord ws s + n)))) (namedCode ws ts wd td d (At (firstWord ws s + n))) (codeAmong ws ts wd td s d n raw)
+    ≡ codeAmong ws ts wd td s d (n + 1) raw
+unfolding codeAmong rowNumbered
+among-more ws ts wd td s d n raw f low fits =
+    rw (add-one, ← number-tested ws s n raw f low fits) (go (sameNumber (valued (layoutAt ws s .signed) (layoutAt ws s .precision) raw) (valueAt ws (firstWord ws s + n))))
+  where
+    older : Found
+    older = rowNumbered ws (valued (layoutAt ws s .signed) (layoutAt ws s .precision) raw) (firstWord ws s) n
+
+    go : (b : Bool) → cond b (namedCode ws ts wd td d (At (firstWord ws s + n))) (namedCode ws ts wd td d older) ≡ namedCode ws ts wd td d (cond b (At (firstWord ws s + n)) older)
+    go true = refl
+    go false = refl
+
+-- all rows
+pub among-all : (ws ts wd td : List ℕ) (s d raw : ℕ) → codeAmong ws ts wd td s d (symbolRows ws s) raw ≡ translatedCode ws ts wd td s d raw
+unfolding codeAmong translatedCode numberRow
+among-all ws ts wd td s d raw = refl
+
+-- the rows of type s, read by the code, and its layout
+module _ (ws ts wd td : List ℕ) (s d base low count : ℕ) {first rows : ℕ} {l : Layout} (rf : Reads (firstWord ws s) first) (rr : (rows ≡ symbolRows ws s) × (rows < 4294967296)) (el : l ≡ layoutAt ws s) where
+  pub symbols-begin : (before : List ℕ) → ((q : ℕ) → q < count → getD before (base + q) 0 ≡ 0) → WordsPut before base count (λ q. codeAmong ws ts wd td s d 0 (low + q)) before
+  symbols-begin before clear =
+      record { each = λ q h. clear q h ∙ sym (among-none ws ts wd td s d (low + q)); below = λ j h. refl; above = λ j h. refl; long = refl }
+
+  pub symbols-more : (before : List ℕ) (n : ℕ) (mid after : List ℕ) {bits code : ℕ} → SymbolsFormed ws s → low + count ≤ 2 ^ layoutAt ws s .precision → n < rows
+      → WordsPut before base count (λ q. codeAmong ws ts wd td s d n (low + q)) mid → bits ≡ bitsOf (l .precision) (valueAt ws (first + n))
+      → code ≡ rowCode (rowNamed wd td (nameAt ws ts (first + n)) (firstWord wd d) (rowsWord wd d)) → CodePut mid base low count bits code after
+      → WordsPut before base count (λ q. codeAmong ws ts wd td s d (n + 1) (low + q)) after
+  symbols-more before n mid after {bits} {code} f inside less p eb ec put =
+      words-again before base count (λ q. codeAmong ws ts wd td s d n (low + q)) (λ q. codeAmong ws ts wd td s d (n + 1) (low + q)) mid after p put
+      (λ q h is.
+      rw (is, eb, ec, el, rf .is) (among-more ws ts wd td s d n (low + q) f (omega (arith, rr .0)) (omega arith)))
+
+  pub symbols-all : (before after : List ℕ) {n : ℕ} → n ≤ rows → rows ≤ n → WordsPut before base count (λ q. codeAmong ws ts wd td s d n (low + q)) after → SpanPut before base low count ws ts wd td s d after
+  symbols-all before after {n} most least p =
+      let e : n ≡ symbolRows ws s = omega (arith, rr .0) in
+      record { each = λ q h. p .each q h ∙ rw e (among-all ws ts wd td s d (low + q)); below = p .below; above = p .above; long = p .long }
 
 -- ---- the words of an entry, kept or copied
 

@@ -22,7 +22,7 @@ returns-4 c =
     let i = c .before .before in
     let e = i .before in
     let t = e .before .before in
-    span-some _ _ (t .type-word .ensures) (e .before .symbol-rows .ensures) (t .before .before .before .layout-at .ensures .0) (e .ends-of .ensures .0) _ (omega (arith, i .if2 .left)) (e .ends-of .ensures .2)
+    span-some _ _ (t .type-word .ensures) (e .before .symbol-rows .ensures) (t .before .before .before .layout-at .ensures .0) (e .ends-of .ensures .0) _ _ (omega (arith, i .if2 .left)) (e .ends-of .ensures .2)
     (c .before .least .ensures) (c .if3 .left)
 
 pub span-of-spec : {M : Type 1} → statement M
