@@ -20,7 +20,7 @@ use table::read::row_word;
 use table::read::type_word;
 
 // A wider span has no words, nor has one of more bits than a word.
-pub const SPAN_MOST: u64 = 256;
+pub const SPAN_MOST: u64 = 512;
 
 const WORD_BITS: u32 = 32;
 

@@ -13,7 +13,7 @@ use std::collections::BTreeSet;
 const ROWS: u64 = 200;
 
 /// The widest span of numbers that lie close.
-pub const CLOSE: i128 = 256;
+pub const CLOSE: i128 = 512;
 
 /// Two sheets with a path, of enums and a few other numbers.
 pub fn sheets(random: &mut Random) -> (Model, Model) {
@@ -151,11 +151,11 @@ fn destination(random: &mut Random) -> Atomic {
     }
 }
 
-/// Numbers of one sign that lie within 256, sometimes at both ends of them.
+/// Numbers of one sign that lie within 512, sometimes at both ends of them.
 fn close(random: &mut Random, base: &Atomic, most: u64) -> BTreeSet<i128> {
     let (low, high) = number::range(base);
     let (low, high) = match base.precision {
-        1..=8 => (low, high),
+        1..=9 => (low, high),
         _ if base.signed && random.percent(50) => (low, -1),
         _ => (0, high),
     };
@@ -173,7 +173,7 @@ fn close(random: &mut Random, base: &Atomic, most: u64) -> BTreeSet<i128> {
 /// Numbers of the whole range, or just one more than lie close.
 fn far(random: &mut Random, base: &Atomic, most: u64) -> BTreeSet<i128> {
     let (low, high) = number::range(base);
-    if base.precision > 9 && random.percent(15) {
+    if base.precision > 10 && random.percent(15) {
         let low = low.max(0);
         let start = random.number(low, high - CLOSE);
         let ends = (start, start + CLOSE);

@@ -10,8 +10,8 @@ use independent::paths::Match;
 
 /// What every form must have met.
 const EACH: [&str; 18] = [
-    "enums that span just 256",
-    "enums that span 257",
+    "enums that span just 512",
+    "enums that span 513",
     "2 symbols far apart",
     "40 symbols far apart",
     "enums far apart, with offset and pads",
@@ -160,8 +160,8 @@ pub fn note_done(
         }
     }
     let span = |span| is(&|pair| pair.span() == span);
-    saw(span(CLOSE), "enums that span just 256");
-    saw(span(CLOSE + 1), "enums that span 257");
+    saw(span(CLOSE), "enums that span just 512");
+    saw(span(CLOSE + 1), "enums that span 513");
     let symbols = |number| is(&|pair| pair.span() > CLOSE && pair.values.len() == number);
     saw(symbols(2), "2 symbols far apart");
     saw(symbols(40), "40 symbols far apart");
