@@ -1,9 +1,12 @@
 // In place in blocks: as many whole source records as the staging record has room for at a time, leaf by leaf.
+ghost use mathlib.Core.Path.{_≡_};
+ghost use mathlib.Core.Bool.{true};
 ghost use Prim.Native.Nat.{_-_, _*_, _/_, _≤_};
 ghost use lib.ListN.{length};
 ghost use Rattle.plans.specs.PlanWords.{Job};
 ghost use Rattle.loops.specs.Steps.{Up, Down};
 ghost use Rattle.symbol_slots.specs.Tables.{Tabled};
+ghost use Rattle.whole_writes.specs.Writes.{WritesEach};
 ghost use Rattle.block_parts.specs.Parts.{InParts};
 use block_columns::SLOTS_WORDS;
 use block_sizes::BLOCK;
@@ -15,14 +18,35 @@ use plan_parts::parts_of;
 use staged_block::replace_block;
 use symbol_slots::TABLES_WORDS;
 use symbol_slots::put_tables;
+use whole_writes::writes_each_byte;
 
 // So many records at once are enough, even where each of them is one part.
 const FEWEST_STAGED: usize = 4;
+
+// So many records pay for a look at each entry of their plan.
+const MANY: usize = 64;
 
 const NONE: Progress = Progress {
     records: 0,
     raised: 0,
 };
+
+// Whether the entries write each byte of a result record, where there are enough records for a look at each entry to be worth its while.
+fn is_whole(
+    count: usize,
+    plan: &[u32],
+    entries: usize,
+    destination_size: usize,
+    destination_half: &[u32],
+) -> bool
+    requires { ⌜ 2 * entries ≤ length (now plan) ⌝ }
+    ensures { λ r. ⌜ (r ≡ true → WritesEach «destination_size» (now (plan .entry)) entries (now («destination_half» .entry))) ⌝ }
+{
+    if count < MANY {
+        return false;
+    }
+    writes_each_byte(plan, entries, destination_size, destination_half)
+}
 
 // From the first record up, where records do not grow and the entries all have columns.
 fn plain_up(
@@ -47,6 +71,7 @@ fn plain_up(
     let mut narrow = [0u32; BLOCK];
     let mut wide = [0u64; BLOCK];
     let at_once = staged_at_once(source_size);
+    let whole = is_whole(count, plan, entries, destination_size, destination_half);
     let mut raised: u64 = 0;
     let mut i: usize = 0;
     while i < count {
@@ -62,6 +87,7 @@ fn plain_up(
             plan,
             entries,
             parts,
+            whole,
             source_half,
             destination_half,
             &mut slots,
@@ -97,6 +123,7 @@ fn plain_down(
     let mut narrow = [0u32; BLOCK];
     let mut wide = [0u64; BLOCK];
     let at_once = staged_at_once(source_size);
+    let whole = is_whole(count, plan, entries, destination_size, destination_half);
     let mut raised: u64 = 0;
     let mut i = count;
     while 0 < i {
@@ -113,6 +140,7 @@ fn plain_down(
             plan,
             entries,
             parts,
+            whole,
             source_half,
             destination_half,
             &mut slots,
