@@ -3,12 +3,16 @@ use mathlib.Core.Path.{_≡_}
 use mathlib.Core.List.{List}
 use Prim.Native.Nat.{ℕ, _+_, _*_, _≤_}
 use lib.ListN.{length, take, drop}
+use Rattle.datatype.proofs.Matches.{size-most}
 use Rattle.records.specs.Plan.{planOf}
 use Rattle.plans.specs.PlanWords.{Ready, entriesOf, Job}
 use Rattle.loops.specs.Steps.{put, Up, Down}
 use Rattle.blocks.specs.Blocks.{eachOf, raisedOver}
 use Rattle.blocks.proofs.BlockTurns.{job-ready}
 use Rattle.blocks.proofs.PlaceBlocks.{up-block, down-block}
+
+pub destination-most : {s d : ℕ} {plan : List ℕ} {n : ℕ} {ws wd words : List ℕ} → Job s d plan n ws wd words → d ≤ 4096
+destination-most j = rw (j .destinationSize) (size-most (j .destination) (j .destinationFormed))
 
 module _ {s d : ℕ} {plan : List ℕ} {n : ℕ} {ws wd words : List ℕ} (j : Job s d plan n ws wd words) where
   placed : (e a b buf : List ℕ) (at k r : ℕ)

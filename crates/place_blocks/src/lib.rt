@@ -16,6 +16,8 @@ use block_sizes::least;
 use block_sizes::staged_at_once;
 use plan_parts::parts_of;
 use staged_block::replace_block;
+use staged_blocks::last_records;
+use staged_blocks::replace_records;
 use symbol_slots::TABLES_WORDS;
 use symbol_slots::put_tables;
 use whole_writes::writes_each_byte;
@@ -100,7 +102,8 @@ fn plain_up(
     Progress { records: i, raised }
 }
 
-// From the last record down, where records do not shrink and the entries all have columns.
+// From the last record down, where records do not shrink and the entries all have columns. Those whose results lie behind all source records that are left go from the first of them on, as memory is
+// read fastest.
 fn plain_down(
     buf: &mut [u8],
     background: &[u8],
@@ -127,14 +130,15 @@ fn plain_down(
     let mut raised: u64 = 0;
     let mut i = count;
     while 0 < i {
-        let k = least(at_once, i);
+        let k = last_records(i, at_once, source_size, destination_size);
         i -= k;
-        raised += replace_block(
+        raised += replace_records(
             buf,
             background,
             staging,
             i,
             k,
+            at_once,
             source_size,
             destination_size,
             plan,

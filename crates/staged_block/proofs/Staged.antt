@@ -18,7 +18,7 @@ use Rattle.blocks.proofs.Columns.{record-front, columns-append, columns-alike, 
 
 module _ (s d : ℕ) (es : List Entry) (sound : AllSound s d es) (k : ℕ) where
   -- k records at the start of the source and of the destination are all that is read and written
-  front : (p q x y : List ℕ) → length p ≡ k * s → length x ≡ k * d
+  pub front : (p q x y : List ℕ) → length p ≡ k * s → length x ≡ k * d
       → (eachOf es s d (p ++ q) k (x ++ y) ≡ eachOf es s d p k x ++ y) × (raisedOver es s (p ++ q) k ≡ raisedOver es s p k)
   front p q x y lp lx =
       let room : k * d ≤ length x = le-of-eq (sym lx) in

@@ -1,7 +1,7 @@
 -- `place_blocks::plain_down` meets its contract. The loop's invariant: from where record i goes the buffer is the result's, up to source record i as it was. Assumes nothing.
 use mathlib.Core.Path.{_≡_, refl, _∙_}
 use Prim.Native.Nat.{_≤_, _-_, _+_}
-use native.Mathlib.Nat.{mul-le-mul-left, mul-le-mul-right}
+use native.Mathlib.Nat.{mul-le-mul-left, add-mul}
 use native.Mathlib.Omega.{arith}
 use lib.ListN.{length}
 use Rattle.plans.specs.PlanWords.{Job}
@@ -11,7 +11,7 @@ use Rattle.loops.specs.Steps.{Down}
 use Rattle.loops.proofs.Jobs.{source-most}
 use Rattle.loops.proofs.PlaceTurns.{down-start}
 use Rattle.blocks.proofs.BlockTurns.{block-rows, job-ready}
-use Rattle.place_blocks.proofs.Placed.{down-placed}
+use Rattle.place_blocks.proofs.Placed.{destination-most, down-placed}
 use Rattle.blocks.proofs.Counted.{source-some, all-most}
 use Rattle.place_blocks.proofs.plain_down.Statement.{statement}
 use Rattle.place_blocks.proofs.plain_down.Tie as tie
@@ -32,17 +32,26 @@ loop-holds c =
     let a = c .before .before .before .before .before .before .before .before .before .before .args in
     (omega arith, refl, refl, refl, refl, refl, kept-none (a .source-half .now) (a .destination-half .now), λ j. down-start (j .source) (j .destination) (j .sourceFormed) (j .destinationFormed) (a .source-size) (a .destination-size) (j .sourceSize) (j .destinationSize) (a .count) (a .buf .now) (a .background .now) (omega arith) (omega arith))
 
-replace-block-requires : tie.Need-replace-block-requires Inv-loop μ-loop
-replace-block-requires c κs =
+last-records-requires : tie.Need-last-records-requires Inv-loop μ-loop
+last-records-requires c κs =
+    let start = c .before .before .before .before .before .before .before .before .before .before .before .before in
+    let at-once = c .before .before .before .staged-at-once .ensures in
+    let size = source-some (start .pre .0) in
+    (c .loop-test .taken, omega (arith, c .before .loop .inv .0, start .pre .4), at-once .0, at-once .1, source-most (start .pre .0), omega (arith, size, start .pre .5), destination-most (start .pre .0))
+
+replace-records-requires : tie.Need-replace-records-requires Inv-loop μ-loop
+replace-records-requires c κs =
     let start = c .before .before .before .before .before .before .before .before .before .before .before .before .before .before .before .before .before .before in
     let a = start .args in
     let l = c .before .before .before .before .before .before .before .loop in
-    let k = c .before .before .before .before .before .least .result in
+    let k = c .before .before .before .before .before .last-records .result in
+    let last = c .before .before .before .before .before .last-records .ensures in
     let at-once = c .before .before .before .before .before .before .before .before .before .staged-at-once .ensures in
     let low : a .source-size ≤ a .destination-size = start .pre .5 in
-    let within : (l .i - k) + k ≤ a .count = omega (arith, c .before .before .before .before .before .least .ensures .2, l .inv .0) in
-    let few : k ≤ c .before .before .before .before .before .before .before .before .before .staged-at-once .result = c .before .before .before .before .before .least .ensures .1 in
+    let back : (l .i - k) + k ≡ l .i = omega (arith, last .1) in
+    let within : (l .i - k) + k ≤ a .count = omega (arith, last .1, l .inv .0) in
     let rows = block-rows (l .i - k) k (a .count) (a .source-size) within in
+    let sources = add-mul (l .i - k) k (a .source-size) in
     let tabled = start .pre .1 _ _ (job-ready (start .pre .0)) in
     let places = block-rows (l .i - k) k (a .count) (a .destination-size) within in (
       (a .words .now, job-ready (start .pre .0), tabled .1, tabled .0),
@@ -50,25 +59,26 @@ replace-block-requires c κs =
       start .pre .3,
       l .inv .6,
       omega arith,
-      omega (arith, few, at-once .1),
+      omega (arith, within, start .pre .4),
       omega arith,
       omega arith,
-      omega (arith, mul-le-mul-right (a .source-size) few, at-once .2),
+      (at-once .0, at-once .1, omega (arith, at-once .2)),
       omega (arith, rows, mul-le-mul-left (a .count) low),
       omega (arith, places),
       omega (arith, places),
       c .before .before .before .before .before .before .before .before .is-whole .ensures,
+      (λ more. omega (arith, rw back at sources, last .2 more)),
     )
 
 -- there are no more exceptions than the records may have bytes
-counted : (c : tie.After-wide2 Inv-loop μ-loop) → c .before .before .before .before .before .before .before .before .before .before .before .before .before .before .before .loop .raised + c .before .before .before .before .before .before .before .replace-block .result ≤ 268435456
+counted : (c : tie.After-wide2 Inv-loop μ-loop) → c .before .before .before .before .before .before .before .before .before .before .before .before .before .before .before .loop .raised + c .before .before .before .before .before .before .before .replace-records .result ≤ 268435456
 counted c =
     let start = c .before .before .before .before .before .before .before .before .before .before .before .before .before .before .before .before .before .before .before .before .before .before .before .before .before .before in
     let a = start .args in
     let l = c .before .before .before .before .before .before .before .before .before .before .before .before .before .before .before .loop in
-    let k = c .before .before .before .before .before .before .before .before .before .before .before .before .before .least .result in
-    let o = c .before .before .before .before .before .before .before .replace-block in
-    let few = c .before .before .before .before .before .before .before .before .before .before .before .before .before .least .ensures .2 in
+    let k = c .before .before .before .before .before .before .before .before .before .before .before .before .before .last-records .result in
+    let o = c .before .before .before .before .before .before .before .replace-records in
+    let few = c .before .before .before .before .before .before .before .before .before .before .before .before .before .last-records .ensures .1 in
     let within : (l .i - k) + k ≤ a .count = omega (arith, few, l .inv .0) in
     let back : l .i ≡ (l .i - k) + k = omega (arith, few) in
     let turned = down-placed (start .pre .0) (a .count) (a .buf .now) (a .background .now) (start .pre .8) (l .i - k) k (l .raised) (o .result) (l .buf) _ within (l .inv .1) (λ t. o .ensures .0 (a .words .now) t (start .pre .1 _ _ t .1) (start .pre .1 _ _ t .0)) (start .pre .7) (start .pre .5) (rw back at (l .inv .7 (start .pre .0))) in
@@ -79,17 +89,17 @@ loop-again c =
     let start = c .before .before .before .before .before .before .before .before .before .before .before .before .before .before .before .before .before .before .before .before .before .before .before .before .before .before in
     let a = start .args in
     let l = c .before .before .before .before .before .before .before .before .before .before .before .before .before .before .before .loop in
-    let k = c .before .before .before .before .before .before .before .before .before .before .before .before .before .least .result in
-    let o = c .before .before .before .before .before .before .before .replace-block in
-    let few = c .before .before .before .before .before .before .before .before .before .before .before .before .before .least .ensures .2 in
+    let k = c .before .before .before .before .before .before .before .before .before .before .before .before .before .last-records .result in
+    let o = c .before .before .before .before .before .before .before .replace-records in
+    let few = c .before .before .before .before .before .before .before .before .before .before .before .before .before .last-records .ensures .1 in
     let within : (l .i - k) + k ≤ a .count = omega (arith, few, l .inv .0) in
     let back : l .i ≡ (l .i - k) + k = omega (arith, few) in (
       omega (arith, within),
       o .kept .0 ∙ l .inv .1,
       o .kept .1 .1 .0 ∙ l .inv .2,
-      o .kept .1 .1 .1 .1 .1 .1 .1 .1 .1 .1 .1 .1 .1 .0 ∙ l .inv .3,
-      o .kept .1 .1 .1 .1 .1 .1 .1 .1 .1 .1 .1 .1 .1 .1 .0 ∙ l .inv .4,
-      o .kept .1 .1 .1 .1 .1 .1 .1 .1 .1 .1 .1 .1 .1 .1 .1 .0 ∙ l .inv .5,
+      o .kept .1 .1 .1 .1 .1 .1 .1 .1 .1 .1 .1 .1 .1 .1 .0 ∙ l .inv .3,
+      o .kept .1 .1 .1 .1 .1 .1 .1 .1 .1 .1 .1 .1 .1 .1 .1 .0 ∙ l .inv .4,
+      o .kept .1 .1 .1 .1 .1 .1 .1 .1 .1 .1 .1 .1 .1 .1 .1 .1 .0 ∙ l .inv .5,
       o .ensures .1,
       λ j. down-placed j (a .count) (a .buf .now) (a .background .now) (start .pre .8) (l .i - k) k (l .raised) (o .result) (l .buf) _ within (l .inv .1) (λ t. o .ensures .0 (a .words .now) t (start .pre .1 _ _ t .1) (start .pre .1 _ _ t .0)) (start .pre .7) (start .pre .5) (rw back at (l .inv .7 j)),
     )
@@ -110,12 +120,12 @@ plain-down-spec =
     staged-at-once-requires
     (λ c κs. c .before .before .before .before .before .before .before .before .before .pre .0 .room)
     loop-holds
-    (λ c κs. (omega arith, omega arith))
+    last-records-requires
     (λ c. omega arith)
     (λ c. omega arith)
     (λ c. omega arith)
     (λ c. omega arith)
-    replace-block-requires
+    replace-records-requires
     (λ c. omega (arith, counted c))
     (λ c. omega arith)
     loop-again
