@@ -70,12 +70,21 @@ fn ints_each(t: &mut [u64], count: usize, w: Words, m: Layout) -> u64
     let up = w.up;
     let ones = w.ones;
     let into = w.into;
-    let least = least_of(m.signed, m.precision);
+    let signed = m.signed;
+    let precision = m.precision;
+    let least = least_of(signed, precision);
     let most = into - least;
     let mut raised: u64 = 0;
     let mut i: usize = 0;
     while i < count {
-        let f = int_near(bits_in(t[i], shift, mask), most, least, into, m);
+        let f = int_near(
+            bits_in(t[i], shift, mask),
+            most,
+            least,
+            into,
+            signed,
+            precision,
+        );
         raised += f.raised;
         t[i] = place(f.raw, up, ones);
         i += 1;

@@ -6,12 +6,17 @@ ghost use lib.Dec.{eqb, ltb};
 ghost use Rattle.layout.specs.Layout.{Valid};
 ghost use Rattle.records.specs.Record.{raises};
 ghost use Rattle.reals.specs.Worth.{negative, exponent};
-ghost use Rattle.reals.specs.Convert.{realToInt};
+ghost use Rattle.reals.specs.Convert.{realToIntOf};
 ghost use Rattle.column_words.specs.Fit.{halfOf, mostOf};
 ghost use Rattle.real_columns.specs.Near.{significandOf, belowOf, wholeNear, partNear, limitOf, signedIn, raisedNear};
 use crate::one_raised;
+use bits::BitAt;
+use bits::ByteAt;
+use bits::Order;
 use bits::shift::pow2;
+use layout::Class;
 use layout::Layout;
+use layout::Pad;
 use real_numbers::cut::SIGN;
 use real_numbers::to_int;
 use std::num::wrapping_add_u64;
@@ -110,15 +115,32 @@ pub fn least_of(signed: bool, precision: u32) -> u64
     if signed { pow2(precision - 1) } else { 0 }
 }
 
-// The real b as an int of layout m.
-pub fn int_near(b: u64, most: u64, least: u64, into: u64, m: Layout) -> NearInt
-    requires { ⌜ Valid m × (most ≡ mostOf (m .signed) (m .precision)) × (least ≡ halfOf (m .signed) (m .precision)) × (into ≡ 2 ^ m .precision - 1) ⌝ }
-    ensures { λ r. ⌜ (r .raw ≡ realToInt m b .raw) × (r .raised ≡ raises (realToInt m b .kind)) × (r .raw ≤ into) × (r .raised ≤ 1) ⌝ }
+// An int of so many bits, the lowest of 8 bytes.
+fn int_layout(signed: bool, precision: u32) -> Layout
+    requires { ⌜ (1 ≤ precision) × (precision ≤ 64) ⌝ }
+    ensures { λ r. ⌜ Valid r × (r .signed ≡ signed) × (r .precision ≡ precision) ⌝ }
+{
+    Layout {
+        class: Class::Int,
+        size: ByteAt(8),
+        order: Order::LE,
+        offset: BitAt(0),
+        precision,
+        lsb: Pad::Zero,
+        msb: Pad::Zero,
+        signed,
+    }
+}
+
+// The real b as an int of so many bits.
+pub fn int_near(b: u64, most: u64, least: u64, into: u64, signed: bool, precision: u32) -> NearInt
+    requires { ⌜ (1 ≤ precision) × (precision ≤ 64) × (most ≡ mostOf signed precision) × (least ≡ halfOf signed precision) × (into ≡ 2 ^ precision - 1) ⌝ }
+    ensures { λ r. ⌜ (r .raw ≡ realToIntOf signed precision b .raw) × (r .raised ≡ raises (realToIntOf signed precision b .kind)) × (r .raw ≤ into) × (r .raised ≤ 1) ⌝ }
 {
     if (b >> FRACTION_BITS) % EXPONENTS <= EXPONENT_OF_2_TO_52 {
         return near(b, most, least, into);
     }
-    let f = to_int(b, m);
+    let f = to_int(b, int_layout(signed, precision));
     NearInt {
         raw: f.raw,
         raised: one_raised(f.kind),

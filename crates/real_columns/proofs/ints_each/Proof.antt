@@ -1,8 +1,9 @@
 -- `real_columns::ints_each` meets its contract. The loop's invariant: the first i numbers are made, those from i on as they were, and exceptions counted. Assumes nothing.
 use mathlib.Core.Path.{_≡_, ap, _∙_}
-use Prim.Native.Nat.{ℕ, _-_, _≤_}
+use Prim.Native.Nat.{ℕ, _-_, _/_, _^_, _≤_}
+use lib.Bits.{bitAnd}
 use native.Mathlib.Omega.{arith}
-use Rattle.reals.specs.Convert.{realToInt}
+use Rattle.reals.specs.Convert.{realToInt, realToIntOf}
 use Rattle.records.specs.Record.{raises}
 use Rattle.real_columns.specs.Reals.{intBy}
 use Rattle.real_columns.proofs.NearInts.{most-is}
@@ -12,10 +13,10 @@ use Rattle.real_columns.proofs.ints_each.Statement.{statement}
 use Rattle.real_columns.proofs.ints_each.Tie as tie
 
 abbrev Inv-loop : tie.InvT-loop
-Inv-loop t₀ count m shift mask up ones into least most raised₀ i₀ t raised i = (i ≤ count) × Turned (intBy shift mask m) up ones t₀ t i raised
+Inv-loop t₀ count shift mask up ones into signed precision least most raised₀ i₀ t raised i = (i ≤ count) × Turned (λ x. realToIntOf signed precision (bitAnd (x / 2 ^ shift) mask)) up ones t₀ t i raised
 
 abbrev μ-loop : tie.MeasureT-loop
-μ-loop t₀ count m shift mask up ones into least most raised₀ i₀ t raised i = count - i
+μ-loop t₀ count shift mask up ones into signed precision least most raised₀ i₀ t raised i = count - i
 
 sub-most : tie.Need-sub-most Inv-loop μ-loop
 sub-most c = omega (arith, c .least-of .ensures .1, c .before .before .pre .4)
@@ -32,7 +33,7 @@ int-near-requires : tie.Need-int-near-requires Inv-loop μ-loop
 int-near-requires c κs =
     let s = c .before .before .before .before .before .before in
     let least = c .before .before .before .before .least-of .ensures .0 in
-    (s .pre .3, most-is (s .args .m .signed) (s .args .m .precision) (s .pre .4) least, least, s .pre .4)
+    (s .pre .3 .some, s .pre .3 .most, most-is (s .args .m .signed) (s .args .m .precision) (s .pre .4) least, least, s .pre .4)
 
 add-raised : tie.Need-add-raised Inv-loop μ-loop
 add-raised c = omega (arith, c .before .before .before .before .before .loop .inv .1 .1 .1, c .before .int-near .ensures .3)
