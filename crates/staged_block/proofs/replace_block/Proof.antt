@@ -37,7 +37,7 @@ returns c =
     let start = c .before .before .before .before .before .before .before .before .before .before .before .before .before .before .before .before .before .before .before .before .before .before .before .before .before .before .before .before .before .before .before .before .before .before .before .before in
     let a = start .args in
     let call = c .before .before .before .before .before .before .before .before .grouped-block .ensures in (
-      (λ words p has kept. staged-block (a .source-size) (a .destination-size) (entriesOf p) (p .sound) (a .k) (a .whole) (λ w src x y. each-alike p (start .pre .12 w) src x y (a .k)) (a .buf .now) (a .background .now) _ _ _ _ (a .i * a .source-size) (a .i * a .destination-size) _ _ (start .pre .9) (start .pre .10) (start .pre .11) (c .before .before .before .before .before .before .before .before .before .before .before .before .before .before .before .before .before .laid-bytes .ensures .0) (c .before .before .before .before .before .before .before .before .before .before .before .before .before .before .before .before .before .before .before .before .before .before .copy-bytes .ensures) (c .before .before .before .before .before .before .before .before .before .before .before .before .before .before .before .before .copy-bytes2 .ensures) (call .0 words p has kept)),
+      (λ words p has kept. staged-block (a .source-size) (a .destination-size) (entriesOf p) (p .sound) (a .k) (a .whole) (λ w src x y. each-alike p (start .pre .12 w) src x y (a .k)) (a .buf .now) (a .background .now) (a .staging .now) (c .before .before .before .before .before .before .before .before .before .before .before .before .before .before .before .before .before .before .before .before .before .before .copy-bytes .last .0) (c .before .before .before .before .before .before .before .before .before .before .before .before .before .before .before .before .copy-bytes2 .last .0) (c .before .before .before .before .before .before .before .before .grouped-block .last .1 .0) (a .i * a .source-size) (a .i * a .destination-size) (c .before .before .before .before .before .before .before .before .grouped-block .result) (c .before .before .before .before .before .before .before .before .before .before .before .before .before .before .before .before .before .laid-bytes .result) (start .pre .9) (start .pre .10) (start .pre .11) (c .before .before .before .before .before .before .before .before .before .before .before .before .before .before .before .before .before .laid-bytes .ensures .0) (c .before .before .before .before .before .before .before .before .before .before .before .before .before .before .before .before .before .before .before .before .before .before .copy-bytes .ensures) (c .before .before .before .before .before .before .before .before .before .before .before .before .before .before .before .before .copy-bytes2 .ensures) (call .0 words p has kept)),
       call .1,
     )
 
