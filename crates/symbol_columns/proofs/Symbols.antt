@@ -11,7 +11,7 @@ use Rattle.column_words.specs.Words.{Fits}
 use Rattle.blocks.specs.Blocks.{sumTo, eachRecord, containerIn, mergeIn}
 use Rattle.blocks.proofs.Turns.{set-below, set-ahead, sum-start, sum-next}
 use Rattle.blocks.proofs.Columns.{each-same, sum-same}
-use Rattle.symbol_columns.specs.Tables.{rawBy, outIn, noneIn, symbolBy, missingBy, Usable}
+use Rattle.symbol_columns.specs.Tables.{rawBy, outIn, noneIn, symbolIn, missingIn, symbolBy, missingBy, Usable}
 use Rattle.symbol_columns.specs.Columns.{eachSymbol, raisedSymbols}
 
 -- ---- the place of the destination's bits
@@ -28,14 +28,6 @@ module _ (out into up ones : ℕ) (most : out ≤ into) (fits : into * 2 ^ up + 
   pub placed-is : out * 2 ^ up % 2 ^ 64 + ones ≡ out * 2 ^ up + ones
   placed-is = ap (λ (x : ℕ). x + ones) (placed-same .0)
 
--- ---- a number, by the words that a loop has at hand
-
-abbrev pub symbolIn : List ℕ → (shift mask into up ones : ℕ) → ℕ → ℕ
-symbolIn table shift mask into up ones x = outIn table into (bitAnd (x / 2 ^ shift) mask) * 2 ^ up + ones
-
-abbrev pub missingIn : List ℕ → (shift mask : ℕ) → ℕ → ℕ
-missingIn table shift mask x = noneIn table (bitAnd (x / 2 ^ shift) mask)
-
 -- ---- the turns of a loop: of the numbers t₀ the first i are translated, those from i on as they were, and those without a symbol counted
 
 abbrev pub Translated : (g f : ℕ → ℕ) → List ℕ → List ℕ → ℕ → ℕ → Type 0
@@ -46,18 +38,47 @@ Translated g f t₀ t i raised =
 pub translated-start : (g f : ℕ → ℕ) (t : List ℕ) → Translated g f t t 0 0
 translated-start g f t = (refl, (λ j h. absurd (omega arith)), (λ j h. refl), sum-start (λ j. f (getD t j 0)), omega arith)
 
-module _ (table : List ℕ) (w : Words) where
+module _ (table : List ℕ) (shift mask into up ones : ℕ) where
   abbrev pub Halfway : List ℕ → List ℕ → ℕ → ℕ → Type 0
-  Halfway = Translated (symbolIn table (w .shift) (w .mask) (w .into) (w .up) (w .ones)) (missingIn table (w .shift) (w .mask))
+  Halfway = Translated (symbolIn table shift mask into up ones) (missingIn table shift mask)
 
-  module _ (u : Usable table (w .into)) (f : Fits 64 w) where
+  module _ (u : Usable table into) where
     -- bits of the destination have a place there
-    pub has-place : {out : ℕ} (raw : ℕ) → out ≡ outIn table (w .into) raw → (out ≤ w .into) × (w .up < 64) × (w .into * 2 ^ w .up + w .ones < 2 ^ 64)
-    has-place raw e = (rw e (u .out raw), f .up, omega (arith, f .sum))
+    pub has-place : up < 64 → into * 2 ^ up + ones < 2 ^ 64 → {out : ℕ} (raw : ℕ) → out ≡ outIn table into raw → (out ≤ into) × (up < 64) × (into * 2 ^ up + ones < 2 ^ 64)
+    has-place high fits raw e = (rw e (u .out raw), high, fits)
 
     pub at-most-one : {none : ℕ} (raw : ℕ) → none ≡ noneIn table raw → none ≤ 1
     at-most-one raw e = rw e (u .none raw)
 
+    module _ (t₀ t : List ℕ) (i raised : ℕ) (l : i < length t) (h : Halfway t₀ t i raised) {raw out none r : ℕ} (er : raw ≡ bitAnd (getD t i 0 / 2 ^ shift) mask)
+        (eo : out ≡ outIn table into raw) (en : none ≡ noneIn table raw) (ep : r ≡ out * 2 ^ up + ones) where
+      pub translated-turn : Halfway t₀ (set t i r) (i + 1) (raised + none)
+      translated-turn =
+          let same : getD t i 0 ≡ getD t₀ i 0 = h .2 i (omega arith) in
+          let bits : raw ≡ bitAnd (getD t₀ i 0 / 2 ^ shift) mask = er ∙ ap (λ (x : ℕ). bitAnd (x / 2 ^ shift) mask) same in
+          let one : r ≡ symbolIn table shift mask into up ones (getD t₀ i 0) = ep ∙ ap (λ (x : ℕ). x * 2 ^ up + ones) (eo ∙ ap (outIn table into) bits) in
+          let few : none ≤ 1 = at-most-one raw en in (
+            simp length-set (h .0),
+            set-below (λ j. symbolIn table shift mask into up ones (getD t₀ j 0)) i t r l (h .1) one,
+            set-ahead t₀ t i r (h .2),
+            sum-next (λ j. missingIn table shift mask (getD t₀ j 0)) i raised none (h .3) (en ∙ ap (noneIn table) bits),
+            omega (arith, h .4),
+          )
+
+  pub translated-end : (t₀ t : List ℕ) {i count raised : ℕ} → i ≡ count → Halfway t₀ t i raised
+      → ((j : ℕ) → j < count → getD t j 0 ≡ symbolIn table shift mask into up ones (getD t₀ j 0)) × (raised ≡ sumTo (λ j. missingIn table shift mask (getD t₀ j 0)) count) × (raised ≤ count)
+  translated-end t₀ t e h = rw (← e) (h .1, h .3, h .4)
+
+module _ (table : List ℕ) (w : Words) where
+  -- the numbers are those that the words of the two layouts make
+  pub translated-by : (t₀ t : List ℕ) {count raised : ℕ}
+      → ((j : ℕ) → j < count → getD t j 0 ≡ symbolIn table (w .shift) (w .mask) (w .into) (w .up) (w .ones) (getD t₀ j 0)) × (raised ≡ sumTo (λ j. missingIn table (w .shift) (w .mask) (getD t₀ j 0)) count)
+      × (raised ≤ count)
+      → ((j : ℕ) → j < count → getD t j 0 ≡ symbolBy table w (getD t₀ j 0)) × (raised ≡ sumTo (λ j. missingBy table w (getD t₀ j 0)) count) × (raised ≤ count)
+  unfolding symbolBy missingBy
+  translated-by t₀ t h = h
+
+  module _ (u : Usable table (w .into)) (f : Fits 64 w) where
     -- there is room for the background's bits
     symbol-room : (x : ℕ) → symbolBy table w x + w .keep < 2 ^ 64
     unfolding symbolBy
@@ -68,25 +89,20 @@ module _ (table : List ℕ) (w : Words) where
     pub column-room : (k : ℕ) (t v : List ℕ) → ((i : ℕ) → i < k → getD v i 0 ≡ symbolBy table w (getD t i 0)) → (i : ℕ) → i < k → getD v i 0 + w .keep < 2 ^ 64
     column-room k t v made i h = rw (made i h) (symbol-room (getD t i 0))
 
-    module _ (t₀ t : List ℕ) (i raised : ℕ) (l : i < length t) (h : Halfway t₀ t i raised) {raw out none r : ℕ} (er : raw ≡ rawBy w (getD t i 0))
-        (eo : out ≡ outIn table (w .into) raw) (en : none ≡ noneIn table raw) (ep : r ≡ out * 2 ^ w .up + w .ones) where
-      pub translated-turn : Halfway t₀ (set t i r) (i + 1) (raised + none)
-      translated-turn =
-          let same : getD t i 0 ≡ getD t₀ i 0 = h .2 i (omega arith) in
-          let bits : raw ≡ rawBy w (getD t₀ i 0) = er ∙ ap (rawBy w) same in
-          let one : r ≡ symbolIn table (w .shift) (w .mask) (w .into) (w .up) (w .ones) (getD t₀ i 0) = ep ∙ ap (λ (x : ℕ). x * 2 ^ w .up + w .ones) (eo ∙ ap (outIn table (w .into)) bits) in
-          let few : none ≤ 1 = at-most-one raw en in (
-            simp length-set (h .0),
-            set-below (λ j. symbolIn table (w .shift) (w .mask) (w .into) (w .up) (w .ones) (getD t₀ j 0)) i t r l (h .1) one,
-            set-ahead t₀ t i r (h .2),
-            sum-next (λ j. missingIn table (w .shift) (w .mask) (getD t₀ j 0)) i raised none (h .3) (en ∙ ap (noneIn table) bits),
-            omega (arith, h .4),
-          )
+    -- there is room for the destination's bits, and where they are the lowest
+    pub words-room : w .into * 2 ^ w .up + w .ones < 2 ^ 64
+    words-room = omega (arith, f .sum)
 
-  pub translated-end : (t₀ t : List ℕ) {i count raised : ℕ} → i ≡ count → Halfway t₀ t i raised
-      → ((j : ℕ) → j < count → getD t j 0 ≡ symbolBy table w (getD t₀ j 0)) × (raised ≡ sumTo (λ j. missingBy table w (getD t₀ j 0)) count) × (raised ≤ count)
-  unfolding symbolBy missingBy
-  translated-end t₀ t e h = rw (← e) (h .1, h .3, h .4)
+    pub lowest-room : w .up ≡ 0 → w .into + w .ones < 2 ^ 64
+    lowest-room e =
+        let room : w .into * 2 ^ 0 + w .ones < 2 ^ 64 = rw e at words-room in
+        omega (arith, room)
+
+    -- by the words of a loop without a shift
+    pub translated-lowest : (t₀ t : List ℕ) {count raised : ℕ} → w .shift ≡ 0 → w .up ≡ 0
+        → ((j : ℕ) → j < count → getD t j 0 ≡ symbolIn table 0 (w .mask) (w .into) 0 (w .ones) (getD t₀ j 0)) × (raised ≡ sumTo (λ j. missingIn table 0 (w .mask) (getD t₀ j 0)) count) × (raised ≤ count)
+        → ((j : ℕ) → j < count → getD t j 0 ≡ symbolBy table w (getD t₀ j 0)) × (raised ≡ sumTo (λ j. missingBy table w (getD t₀ j 0)) count) × (raised ≤ count)
+    translated-lowest t₀ t down up h = translated-by t₀ t (rw (down, up) h)
 
 -- ---- a column
 

@@ -50,12 +50,19 @@ noneIn table raw = cond (eqb (getD table 1 0) 0) (cond (isKey table raw) 0 1) (s
 abbrev pub rawBy : Words → ℕ → ℕ
 rawBy w x = bitAnd (x / 2 ^ w .shift) (w .mask)
 
--- the destination's container, without the background's bits
+-- the destination's container, without the background's bits, and 1 where there is no symbol: by the words that a loop has at hand
+abbrev pub symbolIn : List ℕ → (shift mask into up ones : ℕ) → ℕ → ℕ
+symbolIn table shift mask into up ones x = outIn table into (bitAnd (x / 2 ^ shift) mask) * 2 ^ up + ones
+
+abbrev pub missingIn : List ℕ → (shift mask : ℕ) → ℕ → ℕ
+missingIn table shift mask x = noneIn table (bitAnd (x / 2 ^ shift) mask)
+
+-- and by the words of the two layouts
 unfoldable pub symbolBy : List ℕ → Words → ℕ → ℕ
-symbolBy table w x = outIn table (w .into) (rawBy w x) * 2 ^ w .up + w .ones
+symbolBy table w x = symbolIn table (w .shift) (w .mask) (w .into) (w .up) (w .ones) x
 
 unfoldable pub missingBy : List ℕ → Words → ℕ → ℕ
-missingBy table w x = noneIn table (rawBy w x)
+missingBy table w x = missingIn table (w .shift) (w .mask) x
 
 -- the table's words are what the loops over it need: entries that fit, and bits that fit the destination
 pub record Usable (table : List ℕ) (into : ℕ) : Type 0 where

@@ -7,7 +7,7 @@ ghost use lib.Dec.{eqb, leb, ltb};
 ghost use lib.ListN.{length, getD};
 ghost use Rattle.column_words.specs.Words.{Fits};
 ghost use Rattle.blocks.specs.Blocks.{sumTo};
-ghost use Rattle.symbol_columns.specs.Tables.{spanEntry, stepUp, keyFor, outIn, noneIn, symbolBy, missingBy, Usable};
+ghost use Rattle.symbol_columns.specs.Tables.{spanEntry, stepUp, keyFor, outIn, noneIn, symbolIn, missingIn, symbolBy, missingBy, Usable};
 ghost use Rattle.symbol_columns.specs.Columns.{eachSymbol, raisedSymbols};
 use column_words::Words;
 use std::num::wrapping_sub_u64;
@@ -153,16 +153,20 @@ fn halves_each(t: &mut [u64], count: usize, w: Words, table: &[u64]) -> u64
     raised
 }
 
-// Numbers by a table of a span.
-fn span_each(t: &mut [u64], count: usize, w: Words, table: &[u64]) -> u64
-    requires { ⌜ Usable (now table) (w .into) × Fits 64 w × (count ≤ length (now t)) × (count ≤ 65536) × (544 ≤ length (now table)) × (1 ≤ getD (now table) 1 0) × (getD (now table) 2 0 + getD (now table) 1 0 ≤ 2 ^ 64) ⌝ }
-    ensures { λ r. ⌜ ((i : ℕ) → i < count → getD (now (t .exit)) i 0 ≡ symbolBy (now (table .entry)) w (getD (now (t .entry)) i 0)) × (r ≡ sumTo (λ i. missingBy (now (table .entry)) w (getD (now (t .entry)) i 0)) count) × (r ≤ count) ⌝ }
+// Numbers by a table of a span, by the words that the loop needs.
+fn span_run(
+    t: &mut [u64],
+    count: usize,
+    shift: u32,
+    mask: u64,
+    into: u64,
+    up: u32,
+    ones: u64,
+    table: &[u64],
+) -> u64
+    requires { ⌜ Usable (now table) into × (shift < 64) × (up < 64) × (into * 2 ^ up + ones < 2 ^ 64) × (count ≤ length (now t)) × (count ≤ 65536) × (544 ≤ length (now table)) × (1 ≤ getD (now table) 1 0) × (getD (now table) 2 0 + getD (now table) 1 0 ≤ 2 ^ 64) ⌝ }
+    ensures { λ r. ⌜ ((i : ℕ) → i < count → getD (now (t .exit)) i 0 ≡ symbolIn (now (table .entry)) shift mask into up ones (getD (now (t .entry)) i 0)) × (r ≡ sumTo (λ i. missingIn (now (table .entry)) shift mask (getD (now (t .entry)) i 0)) count) × (r ≤ count) ⌝ }
 {
-    let shift = w.shift;
-    let mask = w.mask;
-    let into = w.into;
-    let up = w.up;
-    let ones = w.ones;
     let entries = table[ENTRY_COUNT];
     let low = table[LOWEST];
     let mut raised: u64 = 0;
@@ -174,6 +178,27 @@ fn span_each(t: &mut [u64], count: usize, w: Words, table: &[u64]) -> u64
         i += 1;
     }
     raised
+}
+
+// The same where the numbers of both sides begin at the lowest bit of their containers: the loop has no shift.
+fn span_lowest(t: &mut [u64], count: usize, mask: u64, into: u64, ones: u64, table: &[u64]) -> u64
+    requires { ⌜ Usable (now table) into × (into + ones < 2 ^ 64) × (count ≤ length (now t)) × (count ≤ 65536) × (544 ≤ length (now table)) × (1 ≤ getD (now table) 1 0) × (getD (now table) 2 0 + getD (now table) 1 0 ≤ 2 ^ 64) ⌝ }
+    ensures { λ r. ⌜ ((i : ℕ) → i < count → getD (now (t .exit)) i 0 ≡ symbolIn (now (table .entry)) 0 mask into 0 ones (getD (now (t .entry)) i 0)) × (r ≡ sumTo (λ i. missingIn (now (table .entry)) 0 mask (getD (now (t .entry)) i 0)) count) × (r ≤ count) ⌝ }
+{
+    span_run(t, count, 0, mask, into, 0, ones, table)
+}
+
+// Numbers by a table of a span.
+fn span_each(t: &mut [u64], count: usize, w: Words, table: &[u64]) -> u64
+    requires { ⌜ Usable (now table) (w .into) × Fits 64 w × (count ≤ length (now t)) × (count ≤ 65536) × (544 ≤ length (now table)) × (1 ≤ getD (now table) 1 0) × (getD (now table) 2 0 + getD (now table) 1 0 ≤ 2 ^ 64) ⌝ }
+    ensures { λ r. ⌜ ((i : ℕ) → i < count → getD (now (t .exit)) i 0 ≡ symbolBy (now (table .entry)) w (getD (now (t .entry)) i 0)) × (r ≡ sumTo (λ i. missingBy (now (table .entry)) w (getD (now (t .entry)) i 0)) count) × (r ≤ count) ⌝ }
+{
+    if w.shift == 0 {
+        if w.up == 0 {
+            return span_lowest(t, count, w.mask, w.into, w.ones, table);
+        }
+    }
+    span_run(t, count, w.shift, w.mask, w.into, w.up, w.ones, table)
 }
 
 // Each of so many containers of the source as one of the destination, without its background; how many have no symbol is returned.

@@ -2,7 +2,8 @@
 use mathlib.Core.Path.{_≡_, refl}
 use Prim.Native.Nat.{_-_, _≤_}
 use native.Mathlib.Omega.{arith}
-use Rattle.symbol_columns.proofs.Symbols.{symbolIn, missingIn, Translated, translated-start, translated-turn, translated-end, has-place, at-most-one}
+use Rattle.symbol_columns.specs.Tables.{symbolIn, missingIn}
+use Rattle.symbol_columns.proofs.Symbols.{Translated, translated-start, translated-turn, translated-end, translated-by, has-place, at-most-one, words-room}
 use Rattle.symbol_columns.proofs.halves_each.Statement.{statement}
 use Rattle.symbol_columns.proofs.halves_each.Tie as tie
 
@@ -35,7 +36,7 @@ add-raised : tie.Need-add-raised Inv-loop μ-loop
 add-raised c =
     let s = c .before .before .before .before .before .before .before .before .before in
     let l = c .before .before .before .before .before .loop in
-    let few : c .none-at .result ≤ 1 = at-most-one (s .args .table .now) (s .args .w) (s .pre .0) (s .pre .1) (c .before .before .raw-in .result) (c .none-at .ensures) in
+    let few : c .none-at .result ≤ 1 = at-most-one (s .args .table .now) (s .args .w .shift) (s .args .w .mask) (s .args .w .into) (s .args .w .up) (s .args .w .ones) (s .pre .0) (c .before .before .raw-in .result) (c .none-at .ensures) in
     omega (arith, few, l .inv .1 .4)
 
 out-at-requires : tie.Need-out-at-requires Inv-loop μ-loop
@@ -47,14 +48,14 @@ out-at-requires c κs =
 placed-requires : tie.Need-placed-requires Inv-loop μ-loop
 placed-requires c κs =
     let s = c .before .before .before .before .before .before .before .before .before .before in
-    has-place (s .args .table .now) (s .args .w) (s .pre .0) (s .pre .1) (c .before .before .before .raw-in .result) (c .out-at .ensures)
+    has-place (s .args .table .now) (s .args .w .shift) (s .args .w .mask) (s .args .w .into) (s .args .w .up) (s .args .w .ones) (s .pre .0) (s .pre .1 .up) (words-room (s .args .table .now) (s .args .w) (s .pre .0) (s .pre .1)) (c .before .before .before .raw-in .result) (c .out-at .ensures)
 
 loop-again : tie.Need-loop-again Inv-loop μ-loop
 loop-again c =
     let s = c .before .before .before .before .before .before .before .before .before .before .before in
     let a = s .args in
     let l = c .before .before .before .before .before .before .before .loop in
-    (omega arith, translated-turn (a .table .now) (a .w) (s .pre .0) (s .pre .1) (a .t .now) (l .t) (l .i) (l .raised) (omega arith) (l .inv .1) (c .before .before .before .before .raw-in .ensures) (c .before .out-at .ensures) (c .before .before .none-at .ensures) (c .placed .ensures))
+    (omega arith, translated-turn (a .table .now) (a .w .shift) (a .w .mask) (a .w .into) (a .w .up) (a .w .ones) (s .pre .0) (a .t .now) (l .t) (l .i) (l .raised) (omega arith) (l .inv .1) (c .before .before .before .before .raw-in .ensures) (c .before .out-at .ensures) (c .before .before .none-at .ensures) (c .placed .ensures))
 
 same-length : tie.Need-same-length Inv-loop μ-loop
 same-length c = c .before .loop .inv .1 .0
@@ -64,7 +65,7 @@ returns c =
     let l = c .before .loop in
     let a = c .before .before .before .before .before .args in
     let end : l .i ≡ a .count = omega arith in
-    translated-end (a .table .now) (a .w) (a .t .now) (l .t) end (l .inv .1)
+    translated-by (a .table .now) (a .w) (a .t .now) (l .t) (translated-end (a .table .now) (a .w .shift) (a .w .mask) (a .w .into) (a .w .up) (a .w .ones) (a .t .now) (l .t) end (l .inv .1))
 
 pub halves-each-spec : {M : Type 1} → statement M
 halves-each-spec =
