@@ -79,7 +79,7 @@ fn next_of(line: Line) -> usize
     }
 }
 
-// The lines of a sheet that is not too long. No note of an earlier sheet is left: it would be true, and cost a look at each row.
+// The lines of a sheet that is not too long. The words for notes are cleared first: what an earlier sheet left there would cost a look at each row.
 fn read_lines(sheet: &[u8], half: &mut [u32]) -> SheetRead
     requires { ⌜ (length (now sheet) ≤ 16384) × (length (now half) ≡ 4096) ⌝ }
     ensures { λ r. ⌜ ReadsLines (now (sheet .entry)) (now (half .exit)) r ⌝ }

@@ -2,6 +2,7 @@
 -- The record of type i has 16 words from word 16 × i on: class (0 int, 1 bits, 2 enum, 3 compound, 4 array, 5 real), size, order, offset, precision, lsb, msb, signed,
 -- base, first row, rows, four dimensions (0 for none), and one that is free. The record of row j has 8 words from word 1,024 + 8 × j on: where its name starts in
 -- the text, the name's length, and of a member its byte offset and its type's number, of a value its sign and the two halves of its distance; three are free.
+-- From word 3,072 on a half has no record: no type and no row depends on the words there, in which the reader of sheets keeps its notes.
 -- Any words stand for some datatypes: a word outside the records reads as 0.
 use mathlib.Core.Bool.{Bool, true, false, cond}
 use mathlib.Core.Path.{_≡_}
