@@ -8,7 +8,7 @@ ghost use Rattle.datatype.specs.Datatype.{binary64};
 ghost use Rattle.line.specs.Line.Line.{atomicLine, enumLine, valueLine, compoundLine, memberLine, arrayLine, realLine};
 ghost use Rattle.table.specs.Table.{bytesAt, upToZero, Holds, typeAt, membersAt, sizeWord, firstWord, rowsWord};
 ghost use Rattle.sheet.specs.Sheet.{judgedAfter, mayPlace};
-ghost use Rattle.name_marks.specs.Marks.{endWord};
+ghost use Rattle.name_marks.specs.Marks.{markOf, endWord};
 ghost use Rattle.sheet_steps.specs.Noted.{Marked, Ended, Noted};
 ghost use Rattle.sheet_steps.specs.Judged.{soFarAt, Judges};
 ghost use Rattle.sheet_steps.specs.Steps.{isIntAt, TypeAdded, RowAdded};
@@ -18,6 +18,7 @@ use bits::Order;
 use layout::Class;
 use layout::Layout;
 use layout::Pad;
+use name_marks::mark_of;
 use name_marks::put_mark;
 use name_marks::raise_end;
 use row_rules::member::may_place;
@@ -57,25 +58,17 @@ fn next_type(half: &mut [u32], types: u32, rows: u32, r: [u32; 16]) -> Judged
     Judged::Accepted(types + 1, rows)
 }
 
-// The record of the next row, one more of the newest type, and the mark of its name, where there is room for it.
-fn next_row(
-    half: &mut [u32],
-    sheet: &[u8],
-    types: u32,
-    rows: u32,
-    start: usize,
-    len: usize,
-    r: [u32; 8],
-) -> Judged
-    requires { ⌜ Holds (now half) types rows × (0 < types) × (start < 4294967296) × (len < 4294967296) ⌝ }
-    ensures { λ j. ⌜ RowAdded (now (half .entry)) (now (half .exit)) (bytesAt (now (sheet .entry)) start len) types rows r j ⌝ }
+// The record of the next row, one more of the newest type, whose name has this mark, where there is room for it.
+fn next_row(half: &mut [u32], types: u32, rows: u32, mark: usize, r: [u32; 8]) -> Judged
+    requires { ⌜ Holds (now half) types rows × (0 < types) × (mark < 512) ⌝ }
+    ensures { λ j. ⌜ RowAdded (now (half .entry)) (now (half .exit)) mark types rows r j ⌝ }
 {
     if MOST_ROWS <= rows {
         return Judged::Refused;
     }
     let i = (types - 1) as usize;
     table::store::add_row(half, i, rows as usize, r);
-    put_mark(half, sheet, start, len, rows + 1);
+    put_mark(half, mark, rows + 1);
     Judged::Accepted(types, rows + 1)
 }
 
@@ -169,11 +162,12 @@ pub fn judge_value(
     if type_word(half, i, CLASS) != ENUM {
         return Judged::Refused;
     }
-    if !may_list(half, sheet, i, start, len, negative, distance) {
+    let mark = mark_of(sheet, start, len);
+    if !may_list(half, sheet, i, start, len, mark, negative, distance) {
         return Judged::Refused;
     }
     let r = value_record(start as u32, len as u32, negative, distance);
-    next_row(half, sheet, types, rows, start, len, r)
+    next_row(half, types, rows, mark, r)
 }
 
 pub fn judge_compound(half: &mut [u32], sheet: &[u8], types: u32, rows: u32, size: u32) -> Judged
@@ -197,13 +191,23 @@ fn may_add(
     type_number: usize,
     start: usize,
     len: usize,
+    mark: usize,
     offset: usize,
     width: usize,
 ) -> bool
-    requires { ⌜ (length (now half) ≡ 4096) × («type_number» < 4294967296) × (start < 4294967296) × (len < 4294967296) × (offset < 4294967296) × (width < 4294967296) × Marked (now half) (now sheet) (firstWord (now half) «type_number» + rowsWord (now half) «type_number») × Ended (now half) (firstWord (now half) «type_number») (firstWord (now half) «type_number» + rowsWord (now half) «type_number») (endWord (now half) «type_number») ⌝ }
+    requires { ⌜ (length (now half) ≡ 4096) × (mark ≡ markOf (bytesAt (now sheet) start len)) × (mark < 512) × («type_number» < 4294967296) × (start < 4294967296) × (len < 4294967296) × (offset < 4294967296) × (width < 4294967296) × Marked (now half) (now sheet) (firstWord (now half) «type_number» + rowsWord (now half) «type_number») × Ended (now half) (firstWord (now half) «type_number») (firstWord (now half) «type_number» + rowsWord (now half) «type_number») (endWord (now half) «type_number») ⌝ }
     ensures { λ r. ⌜ (r ≡ mayPlace (sizeWord (now (half .entry)) «type_number») (membersAt (typeAt (now (half .entry)) (now (sheet .entry))) (now (half .entry)) (now (sheet .entry)) (firstWord (now (half .entry)) «type_number») (rowsWord (now (half .entry)) «type_number»)) (bytesAt (now (sheet .entry)) start len) offset width) × (r ≡ true → offset + width < 4294967296) ⌝ }
 {
-    may_place(&half[..HALF], sheet, type_number, start, len, offset, width)
+    may_place(
+        &half[..HALF],
+        sheet,
+        type_number,
+        start,
+        len,
+        mark,
+        offset,
+        width,
+    )
 }
 
 pub fn judge_member(
@@ -230,11 +234,12 @@ pub fn judge_member(
         return Judged::Refused;
     }
     let width = type_word(half, kind as usize, SIZE);
-    if !may_add(half, sheet, i, start, len, offset as usize, width) {
+    let mark = mark_of(sheet, start, len);
+    if !may_add(half, sheet, i, start, len, mark, offset as usize, width) {
         return Judged::Refused;
     }
     let r = member_record(start as u32, len as u32, offset, kind);
-    let judged = next_row(half, sheet, types, rows, start, len, r);
+    let judged = next_row(half, types, rows, mark, r);
     raise_end(half, i, (offset as usize + width) as u32);
     judged
 }

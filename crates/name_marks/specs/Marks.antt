@@ -21,9 +21,9 @@ markWord w x = getD w (3072 + markOf x) 0
 abbrev pub endWord : List ℕ → ℕ → ℕ
 endWord w i = getD w (3584 + i) 0
 
--- w with n at the mark of the name x
-unfoldable pub markPut : List ℕ → List ℕ → ℕ → List ℕ
-markPut w x n = set w (3072 + markOf x) n
+-- w with n at the mark k
+unfoldable pub markPut : List ℕ → ℕ → ℕ → List ℕ
+markPut w k n = set w (3072 + k) n
 
 -- w where the members of type i end at e or behind it
 unfoldable pub endRaised : List ℕ → ℕ → ℕ → List ℕ

@@ -50,12 +50,12 @@ pub fn marked(half: &[u32], text: &[u8], start: usize, len: usize) -> usize
     word(half, MARKS_AT + mark_of(text, start, len))
 }
 
-// The number n at the mark of a name.
-pub fn put_mark(half: &mut [u32], text: &[u8], start: usize, len: usize, n: u32)
-    requires { ⌜ (length (now half) ≡ 4096) × (start < 4294967296) × (len < 4294967296) ⌝ }
-    ensures { λ _. ⌜ now (half .exit) ≡ markPut (now (half .entry)) (bytesAt (now (text .entry)) start len) n ⌝ }
+// The number n at a mark.
+pub fn put_mark(half: &mut [u32], mark: usize, n: u32)
+    requires { ⌜ (length (now half) ≡ 4096) × (mark < 512) ⌝ }
+    ensures { λ _. ⌜ now (half .exit) ≡ markPut (now (half .entry)) mark n ⌝ }
 {
-    let at = MARKS_AT + mark_of(text, start, len);
+    let at = MARKS_AT + mark;
     half[at] = n;
 }
 

@@ -4,7 +4,7 @@ ghost use mathlib.Core.Bool.{true};
 ghost use Prim.Native.Nat.{_+_, _<_};
 ghost use Rattle.table.specs.Table.{typeAt, bytesAt, membersAt, sizeWord, firstWord, rowsWord};
 ghost use Rattle.sheet.specs.Sheet.{mayPlace};
-ghost use Rattle.name_marks.specs.Marks.{endWord};
+ghost use Rattle.name_marks.specs.Marks.{markOf, endWord};
 ghost use Rattle.sheet_steps.specs.Noted.{Marked, Ended};
 ghost use Rattle.sheet_steps.specs.Steps.{isBeside, apartAt};
 use crate::name::is_new;
@@ -71,15 +71,16 @@ pub fn may_place(
     type_number: usize,
     start: usize,
     len: usize,
+    mark: usize,
     offset: usize,
     width: usize,
 ) -> bool
-    requires { ⌜ («type_number» < 4294967296) × (start < 4294967296) × (len < 4294967296) × (offset < 4294967296) × (width < 4294967296) × Marked (now half) (now sheet) (firstWord (now half) «type_number» + rowsWord (now half) «type_number») × Ended (now half) (firstWord (now half) «type_number») (firstWord (now half) «type_number» + rowsWord (now half) «type_number») (endWord (now half) «type_number») ⌝ }
+    requires { ⌜ (mark ≡ markOf (bytesAt (now sheet) start len)) × (mark < 512) × («type_number» < 4294967296) × (start < 4294967296) × (len < 4294967296) × (offset < 4294967296) × (width < 4294967296) × Marked (now half) (now sheet) (firstWord (now half) «type_number» + rowsWord (now half) «type_number») × Ended (now half) (firstWord (now half) «type_number») (firstWord (now half) «type_number» + rowsWord (now half) «type_number») (endWord (now half) «type_number») ⌝ }
     ensures { λ r. ⌜ (r ≡ mayPlace (sizeWord (now (half .entry)) «type_number») (membersAt (typeAt (now (half .entry)) (now (sheet .entry))) (now (half .entry)) (now (sheet .entry)) (firstWord (now (half .entry)) «type_number») (rowsWord (now (half .entry)) «type_number»)) (bytesAt (now (sheet .entry)) start len) offset width) × (r ≡ true → offset + width < 4294967296) ⌝ }
 {
     let first = type_word(half, type_number, FIRST);
     let rows = type_word(half, type_number, ROWS);
-    if !is_new(half, sheet, first, rows, start, len) {
+    if !is_new(half, sheet, first, rows, start, len, mark) {
         return false;
     }
     if type_word(half, type_number, SIZE) < offset + width {

@@ -6,6 +6,7 @@ ghost use Rattle.number.specs.Number.{fitted};
 ghost use Rattle.number.specs.Parts.{signedBy};
 ghost use Rattle.table.specs.Table.{layoutAt, bytesAt, symbolsAt, firstWord, rowsWord};
 ghost use Rattle.sheet.specs.Sheet.{mayList};
+ghost use Rattle.name_marks.specs.Marks.{markOf};
 ghost use Rattle.sheet_steps.specs.Noted.{Marked};
 use crate::name::is_missing;
 use crate::name::is_new;
@@ -50,15 +51,16 @@ pub fn may_list(
     type_number: usize,
     start: usize,
     len: usize,
+    mark: usize,
     negative: bool,
     distance: u64,
 ) -> bool
-    requires { ⌜ (start < 4294967296) × (len < 4294967296) × Marked (now half) (now sheet) (firstWord (now half) «type_number» + rowsWord (now half) «type_number») ⌝ }
+    requires { ⌜ (mark ≡ markOf (bytesAt (now sheet) start len)) × (mark < 512) × (start < 4294967296) × (len < 4294967296) × Marked (now half) (now sheet) (firstWord (now half) «type_number» + rowsWord (now half) «type_number») ⌝ }
     ensures { λ r. ⌜ r ≡ mayList (layoutAt (now (half .entry)) «type_number») (symbolsAt (now (half .entry)) (now (sheet .entry)) (firstWord (now (half .entry)) «type_number») (rowsWord (now (half .entry)) «type_number»)) (bytesAt (now (sheet .entry)) start len) (signedBy negative distance) ⌝ }
 {
     let first = type_word(half, type_number, FIRST);
     let rows = type_word(half, type_number, ROWS);
-    if !is_new(half, sheet, first, rows, start, len) {
+    if !is_new(half, sheet, first, rows, start, len, mark) {
         return false;
     }
     if !is_missing(row_numbered(half, first, rows, negative, distance)) {

@@ -13,7 +13,7 @@ use Rattle.datatype.specs.Datatype.{Datatype}
 use Rattle.table.specs.Table.{classWord, sizeWord, bytesAt, node, typeAt, typesAt, Holds}
 use Rattle.table.specs.Records.{rowAdded}
 use Rattle.table.proofs.Keeps.{add-type, add-row}
-use Rattle.name_marks.specs.Marks.{markPut}
+use Rattle.name_marks.specs.Marks.{markFrom, markOf, markPut}
 use Rattle.name_marks.proofs.Free.{free-holds, free-types}
 use Rattle.sheet_steps.specs.declared.Judged.{Judged}
 use Rattle.sheet_steps.specs.declared.Judged.the-variants.{Accepted, Refused}
@@ -47,13 +47,13 @@ typed {w} {r = r} {n = n} {m = m} t {T} h noted added whole base first rows is =
     go false e = refused h (rw (types-length w t n, e))
 
 -- a row was added to w, and its end to that
-pub rowed : {w v u x r : List ℕ} {i m e : ℕ} {j : Judged} (t : List ℕ) {T : Datatype} → Holds w (suc i) m → Noted w t (suc i) m → RowAdded w v x (suc i) m r j
+pub rowed : {w v u x r : List ℕ} {i m k e : ℕ} {j : Judged} (t : List ℕ) {T : Datatype} → Holds w (suc i) m → Noted w t (suc i) m → k ≡ markOf x → RowAdded w v k (suc i) m r j
     → (length v ≡ 4096 → EndNoted v u i e) → length r ≡ 8 → bytesAt t (getD r 0 0) (getD r 1 0) ≡ x
     → (classWord w i ≡ 3 → (getD r 3 0 < i) × (getD r 2 0 + sizeWord w (getD r 3 0) ≤ e)) → (m < 256 → node (typeAt w t) (rowAdded w i m r) t i ≡ T)
     → Judges u t (addRow (soFarAt w t (suc i) m) (typesAt w t i) T) j
-rowed {w} {v} {u} {x} {r} {i} {m} {e} t {T} h noted added ending whole name inner is = rw (added .result) (go (ltb m 256) refl (rw sub-one at (added .table)))
+rowed {w} {v} {u} {x} {r} {i} {m} {k} {e} t {T} h noted mark added ending whole name inner is = rw (added .result) (go (ltb m 256) refl (rw (sub-one, mark) at (added .table)))
   where
-    go : (b : Bool) → ltb m 256 ≡ b → v ≡ cond b (markPut (rowAdded w i m r) x (m + 1)) w
+    go : (b : Bool) → ltb m 256 ≡ b → v ≡ cond b (markPut (rowAdded w i m r) (markOf x) (m + 1)) w
         → Judges u t (addRow (soFarAt w t (suc i) m) (typesAt w t i) T) (cond b (Accepted (suc i) (m + 1)) Refused)
     go true b made =
         let grown = add-row (rowAdded w i m r) t r h refl whole (ltb-true _ _ b) (λ c. inner c .0) in

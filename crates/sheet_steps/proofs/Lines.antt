@@ -30,7 +30,7 @@ use Rattle.table.proofs.Keeps.{type-is}
 use Rattle.table.proofs.Made.{node-array, node-compound, node-enum, node-real, node-leaf, atomic-made, real-made, enum-made, compound-made, array-made, member-made, value-made}
 use Rattle.sheet_steps.specs.declared.Judged.{Judged}
 use Rattle.sheet.specs.Sheet.{SoFar, enumOf, withValue, withMember, mayList, mayPlace, addType, addRow, typeNumbered, judgedAfter}
-use Rattle.name_marks.specs.Marks.{endRaised}
+use Rattle.name_marks.specs.Marks.{markFrom, markOf, endRaised}
 use Rattle.sheet_steps.specs.Noted.{Noted}
 use Rattle.sheet_steps.specs.Judged.{soFarAt, Judges}
 use Rattle.sheet_steps.specs.declared.Total.{Total}
@@ -239,16 +239,16 @@ pub value-refused : {w : List ℕ} (n : ℕ) {m : ℕ} {b : Bool} (t x : List �
     → judgedAfter (soFarAt w t n m) (valueLine x z) ≡ none
 value-refused n t x z h ne e may test = value-in n t x z h ne e ∙ rw (fails may test)
 
-pub value-judged : {w v r : List ℕ} (n : ℕ) {m : ℕ} {j : Judged} {b : Bool} (t : List ℕ) (start len : ℕ) (negative : Bool) (d : ℕ) → Holds w n m → Noted w t n m → (n ≡ 0 → ⊥) → classWord w (n - 1) ≡ 2
+pub value-judged : {w v r : List ℕ} (n : ℕ) {m mark : ℕ} {j : Judged} {b : Bool} (t : List ℕ) (start len : ℕ) (negative : Bool) (d : ℕ) → Holds w n m → Noted w t n m → (n ≡ 0 → ⊥) → classWord w (n - 1) ≡ 2
     → b ≡ mayList (layoutAt w (n - 1)) (symbolsAt w t (firstWord w (n - 1)) (rowsWord w (n - 1))) (bytesAt t start len) (signedBy negative d) → not b ≡ false
-    → r ≡ valueRecord start len negative d → RowAdded w v (bytesAt t start len) n m r j
+    → mark ≡ markOf (bytesAt t start len) → r ≡ valueRecord start len negative d → RowAdded w v mark n m r j
     → Judges v t (judgedAfter (soFarAt w t n m) (valueLine (bytesAt t start len) (signedBy negative d))) j
 unfolding valueRecord
-value-judged zero t start len negative d h noted ne e may test er added = absurd (ne refl)
-value-judged {w} {v} (suc i) {m} t start len negative d h noted ne e may test er added =
+value-judged zero t start len negative d h noted ne e may test marked er added = absurd (ne refl)
+value-judged {w} {v} (suc i) {m} t start len negative d h noted ne e may test marked er added =
     let class : classWord w i ≡ 2 = rw sub-one at e in
     rw (value-in (suc i) t (bytesAt t start len) (signedBy negative d) h ne e, holds may test, sub-one)
-    (rowed {e = 0} t h noted (rw er at added) (λ long. end-kept v i) refl refl (λ x. absurd (omega arith)) (λ x. value-made t start len negative d h x (typeAt w t) class))
+    (rowed {e = 0} t h noted marked (rw er at added) (λ long. end-kept v i) refl refl (λ x. absurd (omega arith)) (λ x. value-made t start len negative d h x (typeAt w t) class))
 
 -- ---- members
 
@@ -278,13 +278,13 @@ pub member-refused : {w : List ℕ} (n : ℕ) {m : ℕ} {b : Bool} (t x : List �
     → judgedAfter (soFarAt w t n m) (memberLine x offset k) ≡ none
 member-refused n t x offset k h ne below e size may test = member-in n t x offset k h ne below e ∙ rw (← size, fails may test)
 
-pub member-judged : {w v u r : List ℕ} (n : ℕ) {m : ℕ} {j : Judged} {b : Bool} (t : List ℕ) (start len offset k : ℕ) {width : ℕ} → Holds w n m → Noted w t n m → (n ≡ 0 → ⊥) → k < n - 1 → classWord w (n - 1) ≡ 3 → width ≡ sizeWord w k
+pub member-judged : {w v u r : List ℕ} (n : ℕ) {m mark : ℕ} {j : Judged} {b : Bool} (t : List ℕ) (start len offset k : ℕ) {width : ℕ} → Holds w n m → Noted w t n m → (n ≡ 0 → ⊥) → k < n - 1 → classWord w (n - 1) ≡ 3 → width ≡ sizeWord w k
     → b ≡ mayPlace (sizeWord w (n - 1)) (membersAt (typeAt w t) w t (firstWord w (n - 1)) (rowsWord w (n - 1))) (bytesAt t start len) offset width → not b ≡ false
-    → r ≡ memberRecord start len offset k → RowAdded w v (bytesAt t start len) n m r j → u ≡ endRaised v (n - 1) (offset + width)
+    → mark ≡ markOf (bytesAt t start len) → r ≡ memberRecord start len offset k → RowAdded w v mark n m r j → u ≡ endRaised v (n - 1) (offset + width)
     → Judges u t (judgedAfter (soFarAt w t n m) (memberLine (bytesAt t start len) offset k)) j
 unfolding memberRecord
-member-judged zero t start len offset k h noted ne below e size may test er added ended = absurd (ne refl)
-member-judged {w} {v} (suc i) {m} t start len offset k {width} h noted ne below e size may test er added ended =
+member-judged zero t start len offset k h noted ne below e size may test marked er added ended = absurd (ne refl)
+member-judged {w} {v} (suc i) {m} t start len offset k {width} h noted ne below e size may test marked er added ended =
     let class : classWord w i ≡ 3 = rw sub-one at e in
     rw (member-in (suc i) t (bytesAt t start len) offset k h ne below e, ← size, holds may test, sub-one)
-    (rowed {e = offset + width} t h noted (rw er at added) (λ long. rw (ended, sub-one) (end-raised v i (offset + width) (h .types) long)) refl refl (λ x. (rw sub-one at below, omega (arith, size))) (λ x. member-made t start len offset k h x (typeAt w t) class))
+    (rowed {e = offset + width} t h noted marked (rw er at added) (λ long. rw (ended, sub-one) (end-raised v i (offset + width) (h .types) long)) refl refl (λ x. (rw sub-one at below, omega (arith, size))) (λ x. member-made t start len offset k h x (typeAt w t) class))

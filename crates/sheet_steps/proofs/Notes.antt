@@ -65,24 +65,24 @@ module _ (w x : List ℕ) (m i : ℕ) (words : length w ≡ 4096) where
   small : (y : List ℕ) → markOf y < 512
   small y = mark-small 0 y (omega arith)
 
-  put : markWord (markPut w x (m + 1)) x ≡ m + 1
+  put : markWord (markPut w (markOf x) (m + 1)) x ≡ m + 1
   unfolding markPut
   put = getD-set-same w (3072 + markOf x) (m + 1) 0 (omega (arith, small x))
 
-  other : (k : ℕ) → (k ≡ 3072 + markOf x → ⊥) → getD (markPut w x (m + 1)) k 0 ≡ getD w k 0
+  other : (k : ℕ) → (k ≡ 3072 + markOf x → ⊥) → getD (markPut w (markOf x) (m + 1)) k 0 ≡ getD w k 0
   unfolding markPut
   other k ne = getD-set-other w (3072 + markOf x) k (m + 1) 0 ne
 
-  more : (j : ℕ) (y : List ℕ) → j < m → j < markWord w y → j < markWord (markPut w x (m + 1)) y
+  more : (j : ℕ) (y : List ℕ) → j < m → j < markWord w y → j < markWord (markPut w (markOf x) (m + 1)) y
   more j y a b = go (eqb (markOf y) (markOf x)) refl
     where
-      go : (t : Bool) → eqb (markOf y) (markOf x) ≡ t → j < markWord (markPut w x (m + 1)) y
+      go : (t : Bool) → eqb (markOf y) (markOf x) ≡ t → j < markWord (markPut w (markOf x) (m + 1)) y
       go true e =
-          let at : markWord (markPut w x (m + 1)) y ≡ m + 1 = ap (λ (k : ℕ). getD (markPut w x (m + 1)) (3072 + k) 0) (eqb-true (markOf y) (markOf x) e) ∙ put in
+          let at : markWord (markPut w (markOf x) (m + 1)) y ≡ m + 1 = ap (λ (k : ℕ). getD (markPut w (markOf x) (m + 1)) (3072 + k) 0) (eqb-true (markOf y) (markOf x) e) ∙ put in
           omega arith
       go false e = rw (other (3072 + markOf y) (λ z. eqb-false (markOf y) (markOf x) e (omega arith))) b
 
-  pub mark-noted : RowNoted w (markPut w x (m + 1)) x m i 0
+  pub mark-noted : RowNoted w (markPut w (markOf x) (m + 1)) x m i 0
   unfolding markPut
   mark-noted =
       record {

@@ -21,10 +21,10 @@ pub record TypeAdded (w v : List ℕ) (n m : ℕ) (r : List ℕ) (j : Judged) : 
   pub result : j ≡ cond (ltb n 64) (Accepted (n + 1) m) Refused
   pub table : v ≡ cond (ltb n 64) (paste w (16 * n) r 16) w
 
--- the record r of row m, one more of type n - 1, and the mark of its name x
-pub record RowAdded (w v x : List ℕ) (n m : ℕ) (r : List ℕ) (j : Judged) : Type 0 where
+-- the record r of row m, one more of type n - 1, whose name has the mark k
+pub record RowAdded (w v : List ℕ) (k n m : ℕ) (r : List ℕ) (j : Judged) : Type 0 where
   pub result : j ≡ cond (ltb m 256) (Accepted n (m + 1)) Refused
-  pub table : v ≡ cond (ltb m 256) (markPut (rowAdded w (n - 1) m r) x (m + 1)) w
+  pub table : v ≡ cond (ltb m 256) (markPut (rowAdded w (n - 1) m r) k (m + 1)) w
 
 -- type i is an int; a class above those that the table has reads as one too
 unfoldable pub isIntAt : List ℕ → ℕ → Bool

@@ -26,8 +26,10 @@ may-place-requires c κs =
       s .pre .3,
       s .pre .4,
       s .pre .5,
-      subst (λ (w : List ℕ). Marked w (a .sheet .now) (firstWord w (a .type-number) + rowsWord w (a .type-number))) whole (s .pre .6),
-      subst (λ (w : List ℕ). Ended w (firstWord w (a .type-number)) (firstWord w (a .type-number) + rowsWord w (a .type-number)) (endWord w (a .type-number))) whole (s .pre .7),
+      s .pre .6,
+      s .pre .7,
+      subst (λ (w : List ℕ). Marked w (a .sheet .now) (firstWord w (a .type-number) + rowsWord w (a .type-number))) whole (s .pre .8),
+      subst (λ (w : List ℕ). Ended w (firstWord w (a .type-number)) (firstWord w (a .type-number) + rowsWord w (a .type-number)) (endWord w (a .type-number))) whole (s .pre .9),
     )
 
 returns : tie.Need-returns

@@ -12,11 +12,13 @@ use Rattle.row_rules.proofs.member.may_place.Tie as tie
 is-new-requires : tie.Need-is-new-requires
 is-new-requires c κs =
     let s = c .before .before .before .before in (
+      s .pre .0,
+      s .pre .1,
       c .before .type-word .ensures .small,
       c .type-word2 .ensures .small,
-      s .pre .1,
-      s .pre .2,
-      λ j x. s .pre .5 j (omega (arith, x, c .before .type-word .ensures .is, c .type-word2 .ensures .is)),
+      s .pre .3,
+      s .pre .4,
+      λ j x. s .pre .7 j (omega (arith, x, c .before .type-word .ensures .is, c .type-word2 .ensures .is)),
     )
 
 returns : tie.Need-returns
@@ -36,7 +38,7 @@ lies-apart-requires c κs =
     let s = c .before .before .before .before .before .before .before .before in
     let first = c .before .before .before .before .before .type-word .ensures in
     let rows = c .before .before .before .before .type-word2 .ensures in
-    (s .pre .0, first .small, rows .small, s .pre .3, s .pre .4, λ j x y. s .pre .6 j (omega (arith, x, first .is)) (omega (arith, y, first .is, rows .is)))
+    (s .pre .2, first .small, rows .small, s .pre .5, s .pre .6, λ j x y. s .pre .8 j (omega (arith, x, first .is)) (omega (arith, y, first .is, rows .is)))
 
 returns-3 : tie.Need-returns-3
 returns-3 c =

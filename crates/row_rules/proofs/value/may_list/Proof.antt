@@ -11,11 +11,13 @@ use Rattle.row_rules.proofs.value.may_list.Tie as tie
 is-new-requires : tie.Need-is-new-requires
 is-new-requires c κs =
     let s = c .before .before .before .before in (
-      c .before .type-word .ensures .small,
-      omega (arith, c .type-word2 .ensures .small),
       s .pre .0,
       s .pre .1,
-      λ j x. s .pre .2 j (omega (arith, x, c .before .type-word .ensures .is, c .type-word2 .ensures .is)),
+      c .before .type-word .ensures .small,
+      omega (arith, c .type-word2 .ensures .small),
+      s .pre .2,
+      s .pre .3,
+      λ j x. s .pre .4 j (omega (arith, x, c .before .type-word .ensures .is, c .type-word2 .ensures .is)),
     )
 
 returns : tie.Need-returns
