@@ -13,22 +13,29 @@ use Rattle.symbol_columns.specs.Tables.{stepUp, keyBelow, keyFor, isKey,
 
 -- ---- a step
 
-module _ (key raw j at : ℕ) where
-  pub not-above : key ≤ raw → j ≡ cond (leb key raw) j at
+module _ (key raw step : ℕ) where
+  pub not-above : key ≤ raw → step ≡ cond (leb key raw) step 0
   not-above h = simp (le-leb key raw h)
 
-  pub is-above : raw < key → at ≡ cond (leb key raw) j at
+  pub is-above : raw < key → 0 ≡ cond (leb key raw) step 0
   is-above h = simp (lt-leb key raw h)
 
-  either-le : (step : ℕ) → j ≡ at + step → (t : Bool) → cond t j at ≤ at + step
-  either-le step e true = omega arith
-  either-le step e false = omega arith
+step-le : (step : ℕ) (t : Bool) → cond t step 0 ≤ step
+step-le step true = omega arith
+step-le step false = omega arith
+
+step-ends : (at step : ℕ) (t : Bool) → at + cond t step 0 ≡ cond t (at + step) at
+step-ends at step true = refl
+step-ends at step false = omega arith
 
 module _ (table : List ℕ) (raw step at keys : ℕ) (n : keys ≡ getD table 3 0) where
-  pub step-in : {r : ℕ} → at + step < keys → r ≡ cond (leb (getD table (16 + (at + step)) 0) raw) (at + step) at → (r ≡ stepUp table raw step at) × (r ≤ at + step)
+  pub step-room : {up : ℕ} → up ≡ cond (leb (getD table (16 + (at + step)) 0) raw) step 0 → up ≤ step
+  step-room e = rw e (step-le step (leb (getD table (16 + (at + step)) 0) raw))
+
+  pub step-in : {up : ℕ} → at + step < keys → up ≡ cond (leb (getD table (16 + (at + step)) 0) raw) step 0 → (at + up ≡ stepUp table raw step at) × (at + up ≤ at + step)
   step-in l e =
       let is : ltb (at + step) (getD table 3 0) ≡ true = lt-ltb (at + step) (getD table 3 0) (omega arith) in
-      (rw (is, e), rw e (either-le (getD table (16 + (at + step)) 0) raw (at + step) at step refl (leb (getD table (16 + (at + step)) 0) raw)))
+      (rw (is, e) (step-ends at step (leb (getD table (16 + (at + step)) 0) raw)), omega (arith, step-room e))
 
   pub step-past : keys ≤ at + step → (at ≡ stepUp table raw step at) × (at ≤ at + step)
   step-past l =

@@ -39,10 +39,11 @@ const NONE: u64 = 4294967296;
 
 // ---- by halves
 
-fn either(key: u64, raw: u64, j: usize, at: usize) -> usize
-    ensures { λ r. ⌜ r ≡ cond (leb key raw) j at ⌝ }
+// The step, if the key at its end is not above. It is added to where the step begins: a choice between its two ends would be a branch on data.
+fn step_to(key: u64, raw: u64, step: usize) -> usize
+    ensures { λ r. ⌜ r ≡ cond (leb key raw) step 0 ⌝ }
 {
-    if key <= raw { j } else { at }
+    if key <= raw { step } else { 0 }
 }
 
 // So many keys up from the key `at`, if the key there is not above.
@@ -51,8 +52,8 @@ fn step_up(table: &[u64], keys: usize, raw: u64, step: usize, at: usize) -> usiz
     ensures { λ r. ⌜ (r ≡ stepUp (now (table .entry)) raw step at) × (r ≤ at + step) ⌝ }
 {
     let j = at + step;
-    let up = either(table[KEYS + j], raw, j, at);
-    if j < keys { up } else { at }
+    let up = step_to(table[KEYS + j], raw, step);
+    if j < keys { at + up } else { at }
 }
 
 // The last key that is not above.
