@@ -1,2 +1,2 @@
 pub mod After
-pub mod Levels
+pub mod Rounded

@@ -13,7 +13,7 @@ ghost use Rattle.whole_writes.specs.Writes.{WritesEach};
 ghost use Rattle.block_parts.specs.Parts.{InParts};
 use staged_block::replace_block;
 
-// The lower of two counts.
+// The lower of two counts: the first one, where it is not all of the second.
 fn lower(a: usize, b: usize) -> usize
     requires { ⌜ (1 ≤ a) × (1 ≤ b) ⌝ }
     ensures { λ r. ⌜ (1 ≤ r) × (r ≤ a) × (r ≤ b) × (r < b → r ≡ a) ⌝ }
@@ -21,8 +21,8 @@ fn lower(a: usize, b: usize) -> usize
     if a < b { a } else { b }
 }
 
-// How many of i records go next, where records grow: the last ones, whose results lie behind all of the source records, and so from the first of them on; where these are no more than a
-// block, the last block.
+// How many of i records go next, where records grow: those whose results lie behind all i source records, which can so go from the first of them on; where these are no more than a block,
+// the last block.
 pub fn last_records(i: usize, at_once: usize, source_size: usize, destination_size: usize) -> usize
     requires { ⌜ (1 ≤ i) × (i ≤ 65536) × (1 ≤ «at_once») × («at_once» ≤ 256) × («source_size» ≤ 4096) × (1 ≤ «destination_size») × («destination_size» ≤ 4096) ⌝ }
     ensures { λ r. ⌜ (1 ≤ r) × (r ≤ i) × («at_once» < r → i * «source_size» ≤ (i - r) * «destination_size») ⌝ }

@@ -4,7 +4,7 @@ use Prim.Native.Nat.{_*_, _-_, _+_, _/_, _≤_}
 use native.Mathlib.Nat.{mul-le-mul, div-le-self}
 use native.Mathlib.Omega.{arith}
 use borrow.Author.Needs.{needs}
-use Rattle.staged_blocks.proofs.Levels.{up-enough}
+use Rattle.staged_blocks.proofs.Rounded.{up-enough}
 use Rattle.staged_blocks.proofs.last_records.Statement.{statement}
 use Rattle.staged_blocks.proofs.last_records.Tie as tie
 

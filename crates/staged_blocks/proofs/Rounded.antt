@@ -1,4 +1,4 @@
--- Bytes in whole records. Assumes nothing.
+-- Bytes brought up to whole records. Assumes nothing.
 use Prim.Native.Nat.{ℕ, _+_, _-_, _*_, _/_, _≤_, _<_}
 use native.Mathlib.Nat.{mod-lt, div-add-mod'}
 use native.Mathlib.Omega.{arith}
