@@ -4,12 +4,13 @@ ghost use Prim.Native.Nat.{ℕ, _+_, _^_, _≤_, _<_, min, max};
 ghost use lib.ListN.{length, getD};
 ghost use Rattle.table.specs.Table.{firstWord, rowsWord, layoutAt, nameAt};
 ghost use Rattle.table.specs.Rows.{rowNamed};
+ghost use Rattle.namesakes.specs.Named.{NamesOnce};
 ghost use Rattle.plans.specs.PlanWords.{RowsWithin, rowCode};
 ghost use Rattle.plans.specs.Spans.{RowsIn, SymbolsFormed, WordsPut, SpanPut, CodePut};
 ghost use Rattle.enum_spans.specs.Span.{SpanFound};
+use namesakes::row_by_hint;
 use row_codes::symbol_rows;
 use row_codes::value_bits;
-use row_lookup::row_named;
 use table::FIRST;
 use table::Found;
 use table::NAME;
@@ -50,7 +51,7 @@ fn greatest(a: u64, b: u64) -> u64
     if a < b { b } else { a }
 }
 
-// The row of the destination enum that has the name of a source row, in one word.
+// The row of the destination enum that has the name of a source row, in one word. Most often it has the same number.
 fn named_row(
     source_half: &[u32],
     source_sheet: &[u8],
@@ -59,18 +60,19 @@ fn named_row(
     destination_type: usize,
     row: usize,
 ) -> u32
-    requires { ⌜ RowsWithin (now «destination_half») «destination_type» ⌝ }
+    requires { ⌜ RowsWithin (now «destination_half») «destination_type» × NamesOnce (now «destination_half») (now «destination_sheet») (firstWord (now «destination_half») «destination_type») (rowsWord (now «destination_half») «destination_type») ⌝ }
     ensures { λ r. ⌜ r ≡ rowCode (rowNamed (now («destination_half» .entry)) (now («destination_sheet» .entry)) (nameAt (now («source_half» .entry)) (now («source_sheet» .entry)) row) (firstWord (now («destination_half» .entry)) «destination_type») (rowsWord (now («destination_half» .entry)) «destination_type»)) ⌝ }
 {
     let first = type_word(destination_half, destination_type, FIRST);
     let rows = type_word(destination_half, destination_type, ROWS);
     let start = row_word(source_half, row, NAME);
     let len = row_word(source_half, row, NAME_LENGTH);
-    match row_named(
+    match row_by_hint(
         destination_half,
         destination_sheet,
         first,
         rows,
+        row,
         source_sheet,
         start,
         len,
@@ -164,7 +166,7 @@ fn put_symbols(
     source_type: usize,
     destination_type: usize,
 )
-    requires { ⌜ SymbolsFormed (now «source_half») «source_type» × RowsWithin (now «destination_half») «destination_type» × (low + count ≤ 2 ^ layoutAt (now «source_half») «source_type» .precision) × (base + count ≤ length (now words)) × ((q : ℕ) → q < count → getD (now words) (base + q) 0 ≡ 0) ⌝ }
+    requires { ⌜ SymbolsFormed (now «source_half») «source_type» × RowsWithin (now «destination_half») «destination_type» × NamesOnce (now «destination_half») (now «destination_sheet») (firstWord (now «destination_half») «destination_type») (rowsWord (now «destination_half») «destination_type») × (low + count ≤ 2 ^ layoutAt (now «source_half») «source_type» .precision) × (base + count ≤ length (now words)) × ((q : ℕ) → q < count → getD (now words) (base + q) 0 ≡ 0) ⌝ }
     ensures { λ _. ⌜ SpanPut (now (words .entry)) base low count (now («source_half» .entry)) (now («source_sheet» .entry)) (now («destination_half» .entry)) (now («destination_sheet» .entry)) «source_type» «destination_type» (now (words .exit)) ⌝ }
 {
     let l = layout_at(source_half, source_type);
@@ -200,7 +202,7 @@ pub fn put_span(
     source_type: usize,
     destination_type: usize,
 )
-    requires { ⌜ SymbolsFormed (now «source_half») «source_type» × RowsWithin (now «destination_half») «destination_type» × (low + count ≤ 2 ^ layoutAt (now «source_half») «source_type» .precision) × (base + count ≤ length (now words)) ⌝ }
+    requires { ⌜ SymbolsFormed (now «source_half») «source_type» × RowsWithin (now «destination_half») «destination_type» × NamesOnce (now «destination_half») (now «destination_sheet») (firstWord (now «destination_half») «destination_type») (rowsWord (now «destination_half») «destination_type») × (low + count ≤ 2 ^ layoutAt (now «source_half») «source_type» .precision) × (base + count ≤ length (now words)) ⌝ }
     ensures { λ _. ⌜ SpanPut (now (words .entry)) base low count (now («source_half» .entry)) (now («source_sheet» .entry)) (now («destination_half» .entry)) (now («destination_sheet» .entry)) «source_type» «destination_type» (now (words .exit)) ⌝ }
 {
     clear(words, base, count as usize);

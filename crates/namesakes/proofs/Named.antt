@@ -1,25 +1,27 @@
--- A row with a name is the row of the name, where the names are unique: those of a well-formed compound's members are. Assumes nothing.
+-- A row with a name is the row of the name, where the names are unique: those of a well-formed compound's members and of an enum's symbols are. Assumes nothing.
 use mathlib.Core.Path.{_≡_, refl, sym, ap, _∙_}
 use mathlib.Core.Bool.{Bool, true, false, cond, _&&_, false≢true}
 use mathlib.Core.List.{List}
+use mathlib.Core.Option.{none}
 use Prim.Native.Nat.{ℕ, zero, suc, _+_, _≤_, _<_}
 use native.Mathlib.Decide.{ℕ-discrete}
 use native.Mathlib.Omega.{arith}
 use lib.Dec.{leb, ltb}
 use borrow.Author.Needs.{needs}
 use borrow.Author.Tests.{leb-true, ltb-true, le-leb, lt-ltb, lt-leb, le-ltb}
+use Rattle.layout.specs.declared.Layout.{Layout}
 use Rattle.datatype.specs.Datatype.{Datatype, same}
-use Rattle.datatype.specs.Paths.{memberNamed}
-use Rattle.datatype.specs.WellFormed.{WellFormedIn}
-use Rattle.datatype.proofs.Tests.{and-true, same→eq}
+use Rattle.datatype.specs.Paths.Lookup.{missing}
+use Rattle.datatype.specs.WellFormed.{Symbols, WellFormedIn}
+use Rattle.datatype.proofs.Tests.{nothing, and-true, same→eq}
 use Rattle.datatype.proofs.Ways.{not-found}
 use Rattle.table.specs.declared.Found.{Found}
 use Rattle.table.specs.declared.Found.the-variants.{At, Missing}
-use Rattle.table.specs.Table.{rowWord, firstWord, rowsWord, bytesAt, nameAt, membersAt}
+use Rattle.table.specs.Table.{rowWord, firstWord, rowsWord, bytesAt, nameAt, symbolsAt, membersAt}
 use Rattle.table.specs.Words.{Reads}
-use Rattle.table.specs.Rows.{rowNamed, memberFound}
-use Rattle.table.proofs.Lookups.{member-named}
-use Rattle.namesakes.specs.Named.{isNamed, NamedIn}
+use Rattle.table.specs.Rows.{rowNamed, memberFound, valueFound}
+use Rattle.table.proofs.Lookups.{member-named, symbol-named}
+use Rattle.namesakes.specs.Named.{isNamed, NamesOnce, NamedIn}
 
 module _ (w t x : List ℕ) (first n : ℕ) where
   -- ---- a row, whether it is one of them and has the name
@@ -92,32 +94,66 @@ module _ (w t x : List ℕ) (first : ℕ) where
 
   -- ---- unique names
 
-  module _ (D : ℕ → Datatype) (z : ℕ) where
-    once : (n j : ℕ) → WellFormedIn z (membersAt D w t first n) → first ≤ j → j < first + n → same x (nameAt w t j) ≡ true → rowNamed w t x first n ≡ At j
-    unfolding rowNamed membersAt
-    once zero j f l r e = absurd (omega arith)
-    once (suc n) j f l r e =
-        go (λ h. once n j (f .2) l h e) (ℕ-discrete j (first + n)) (same x (nameAt w t (first + n))) refl
-      where
-        go : (j < first + n → rowNamed w t x first n ≡ At j) → Dec (j ≡ first + n)
-            → (b : Bool) → same x (nameAt w t (first + n)) ≡ b → cond b (At (first + n)) (rowNamed w t x first n) ≡ At j
-        go later (yes at) true q = ap At (sym at)
-        go later (yes at) false q = absurd (false≢true (sym q ∙ (rw at at e)))
-        go later (no past) true q =
-            not-found
-            (sym (f .0 .name-once)
-            ∙ ap (λ (y : List ℕ). memberNamed y (membersAt D w t first n)) (sym (same→eq x (nameAt w t (first + n)) q))
-            ∙ member-named w t x first D n
-            ∙ ap (memberFound D w) (later (omega arith)))
-        go later (no past) false q = later (omega arith)
+  once : (n j : ℕ) → ((q : ℕ) → q < n → rowNamed w t (nameAt w t (first + q)) first q ≡ Missing) → first ≤ j → j < first + n → same x (nameAt w t j) ≡ true
+      → rowNamed w t x first n ≡ At j
+  unfolding rowNamed
+  once zero j each l r e = absurd (omega arith)
+  once (suc n) j each l r e =
+      go (λ h. once n j (λ q p. each q (omega arith)) l h e) (ℕ-discrete j (first + n)) (same x (nameAt w t (first + n))) refl
+    where
+      go : (j < first + n → rowNamed w t x first n ≡ At j) → Dec (j ≡ first + n)
+          → (b : Bool) → same x (nameAt w t (first + n)) ≡ b → cond b (At (first + n)) (rowNamed w t x first n) ≡ At j
+      go later (yes at) true q = ap At (sym at)
+      go later (yes at) false q = absurd (false≢true (sym q ∙ (rw at at e)))
+      go later (no past) true q =
+          let none = rw (← (same→eq x (nameAt w t (first + n)) q)) at (each n (omega arith)) in
+          let found = later (omega arith) in
+          let no : _≡_ {A = ℕ} 0 1 = cc in
+          absurd (omega arith)
+      go later (no past) false q = later (omega arith)
 
-    -- what is found by a name among the members of a well-formed compound is what rowNamed finds
-    pub the-row : (n : ℕ) {r : Found} → WellFormedIn z (membersAt D w t first n) → NamedIn w t x first n r → r ≡ rowNamed w t x first n
-    the-row n {r} f named = go r refl
-      where
-        go : (v : Found) → r ≡ v → v ≡ rowNamed w t x first n
-        go (At j) e = let h = named→ w t x first n j (named .has j e) in sym (once n j f (h .0) (h .1) (h .2))
-        go Missing e = sym (named .none e)
+  -- what is found by a name is what rowNamed finds
+  pub the-one : (n : ℕ) {r : Found} → NamesOnce w t first n → NamedIn w t x first n r → r ≡ rowNamed w t x first n
+  the-one n {r} f named = go r refl
+    where
+      go : (v : Found) → r ≡ v → v ≡ rowNamed w t x first n
+      go (At j) e = let h = named→ w t x first n j (named .has j e) in sym (once n j (f .each) (h .0) (h .1) (h .2))
+      go Missing e = sym (named .none e)
+
+module _ (w t : List ℕ) (first : ℕ) where
+  members-once : (D : ℕ → Datatype) (z n : ℕ) → WellFormedIn z (membersAt D w t first n) → (q : ℕ) → q < n → rowNamed w t (nameAt w t (first + q)) first q ≡ Missing
+  unfolding membersAt
+  members-once D z zero f q h = absurd (omega arith)
+  members-once D z (suc n) f q h = go (λ l. members-once D z n (f .2) q l) (ℕ-discrete q n)
+    where
+      missing-row : (v : Found) → memberFound D w v ≡ missing → v ≡ Missing
+      missing-row (At j) e = not-found (sym e)
+      missing-row Missing e = refl
+
+      go : (q < n → rowNamed w t (nameAt w t (first + q)) first q ≡ Missing) → Dec (q ≡ n) → rowNamed w t (nameAt w t (first + q)) first q ≡ Missing
+      go later (yes e) = rw e (missing-row _ (sym (member-named w t (nameAt w t (first + n)) first D n) ∙ f .0 .name-once))
+      go later (no past) = later (omega arith)
+
+  symbols-each : (l : Layout) (n : ℕ) → Symbols l (symbolsAt w t first n) → (q : ℕ) → q < n → rowNamed w t (nameAt w t (first + q)) first q ≡ Missing
+  unfolding symbolsAt
+  symbols-each l zero f q h = absurd (omega arith)
+  symbols-each l (suc n) f q h = go (λ p. symbols-each l n (f .1) q p) (ℕ-discrete q n)
+    where
+      missing-row : (v : Found) → valueFound w v ≡ none → v ≡ Missing
+      missing-row (At j) e = nothing (sym e)
+      missing-row Missing e = refl
+
+      go : (q < n → rowNamed w t (nameAt w t (first + q)) first q ≡ Missing) → Dec (q ≡ n) → rowNamed w t (nameAt w t (first + q)) first q ≡ Missing
+      go later (yes e) = rw e (missing-row _ (sym (symbol-named w t (nameAt w t (first + n)) first n) ∙ f .0 .name-once))
+      go later (no past) = later (omega arith)
+
+  -- so are the names of a well-formed enum's symbols
+  pub symbols-once : (l : Layout) (n : ℕ) → Symbols l (symbolsAt w t first n) → NamesOnce w t first n
+  symbols-once l n f = record { each = symbols-each l n f }
+
+  -- and those of a well-formed compound's members
+  pub the-row : (x : List ℕ) (D : ℕ → Datatype) (z n : ℕ) {r : Found} → WellFormedIn z (membersAt D w t first n) → NamedIn w t x first n r → r ≡ rowNamed w t x first n
+  the-row x D z n f named = the-one w t x first n (record { each = members-once D z n f }) named
 
 pub ruleset hint-laws = (needs, by-rows, by-hint)
 
@@ -128,3 +164,7 @@ pub by-words : (ws ts : List ℕ) (s : ℕ) (wd td : List ℕ) (row : ℕ) {star
 by-words ws ts s wd td row hs hl hf hn named = rw (← (hs .is), ← (hl .is), ← (hf .is), ← (hn .is)) named
 
 pub ruleset word-laws = (needs, by-words)
+
+pub one-by-words : (w t x : List ℕ) (k : ℕ) {first n : ℕ} {r : Found} → Reads (firstWord w k) first → Reads (rowsWord w k) n
+    → NamesOnce w t (firstWord w k) (rowsWord w k) → NamedIn w t x first n r → r ≡ rowNamed w t x first n
+one-by-words w t x k {first} {n} hf hn f named = the-one w t x first n (rw (hf .is, hn .is) f) named

@@ -39,7 +39,7 @@ fn is_named(
 
 // Of the n rows from first on, one whose name is the len bytes of x from start on. The row `hint` is looked at first, then the one that is noted at the name's
 // mark, then all.
-fn row_by_hint(
+pub fn row_by_hint(
     half: &[u32],
     sheet: &[u8],
     first: usize,

@@ -207,7 +207,7 @@ module _ (ws ts : List ℕ) (s : ℕ) (wd td : List ℕ) (j : ℕ) {r : Found} (
   inFound ask D = onFound (λ o T. ask T (D (memberTypeWord wd j))) true
 
   row-is : (S : ℕ → Datatype) (z : ℕ) → WellFormedIn z (membersOfType S ws ts s) → r ≡ rowNamed ws ts (nameAt wd td j) (firstWord ws s) (rowsWord ws s)
-  row-is S z formed = the-row ws ts (nameAt wd td j) (firstWord ws s) S z (rowsWord ws s) formed hr
+  row-is S z formed = the-row ws ts (firstWord ws s) (nameAt wd td j) S z (rowsWord ws s) formed hr
 
   named-is : (ask : Datatype → Datatype → Bool) (S D : ℕ → Datatype) (z : ℕ) {v : Found} → WellFormedIn z (membersOfType S ws ts s) → r ≡ v
       → askNamed ask D (membersOfType S ws ts s) wd td j ≡ inFound ask D (memberFound S ws v)

@@ -44,7 +44,7 @@ module _ (ws ts : List ℕ) (s : ℕ) (wd td : List ℕ) (j b : ℕ) (kind : kin
 
   row-is : (S : ℕ → Datatype) → Whole S ws ts s → r ≡ rowNamed ws ts (nameAt wd td j) (firstWord ws s) (rowsWord ws s)
   row-is S whole =
-      the-row ws ts (nameAt wd td j) (firstWord ws s) S (sizeWord ws s) (rowsWord ws s) (formed-compound S ws ts s whole kind .1) hr
+      the-row ws ts (firstWord ws s) (nameAt wd td j) S (sizeWord ws s) (rowsWord ws s) (formed-compound S ws ts s whole kind .1) hr
 
   named-is : (S D : ℕ → Datatype) (c : ℕ) {v : Found} → Whole S ws ts s → r ≡ v
       → matchNamed D (membersOfType S ws ts s) wd td j c ≡ inFound D c (memberFound S ws v)

@@ -28,7 +28,7 @@ symbol-rows-requires c κs = search needs
 loop-holds : tie.Need-loop-holds Inv-loop μ-loop
 loop-holds c =
     let l = c .before .before in
-    (omega arith, symbols-begin _ _ _ _ _ _ _ _ _ (c .before .type-word .ensures) (c .symbol-rows .ensures) (l .layout-at .ensures .0) _ (start l .pre .4))
+    (omega arith, symbols-begin _ _ _ _ _ _ _ _ _ (c .before .type-word .ensures) (c .symbol-rows .ensures) (l .layout-at .ensures .0) _ (start l .pre .5))
 
 add-row : tie.Need-add-row Inv-loop μ-loop
 add-row c =
@@ -41,12 +41,14 @@ value-bits-requires c κs =
     rw (l .layout-at .ensures .0) (start l .pre .0 .most)
 
 named-row-requires : tie.Need-named-row-requires Inv-loop μ-loop
-named-row-requires c κs = start (c .before .before .before .before .before) .pre .1
+named-row-requires c κs =
+    let p = start (c .before .before .before .before .before) .pre in
+    (p .1, p .2)
 
 put-code-requires : tie.Need-put-code-requires Inv-loop μ-loop
 put-code-requires c κs =
     let o = c .before .before .before .before in
-    omega (arith, start (o .before .before .before) .pre .3, o .loop .inv .1 .long)
+    omega (arith, start (o .before .before .before) .pre .4, o .loop .inv .1 .long)
 
 add-i : tie.Need-add-i Inv-loop μ-loop
 add-i c = omega arith
@@ -64,7 +66,7 @@ loop-again c =
     let l = r .before .before in
     let o = t .before .loop in (
       omega (arith, t .loop-test .taken),
-      symbols-more _ _ _ _ _ _ _ _ _ (r .before .type-word .ensures) (r .symbol-rows .ensures) (l .layout-at .ensures .0) _ (o .i) (o .words) _ (start l .pre .0) (start l .pre .2) (t .loop-test .taken) (o .inv .1) (b .value-bits .ensures)
+      symbols-more _ _ _ _ _ _ _ _ _ (r .before .type-word .ensures) (r .symbol-rows .ensures) (l .layout-at .ensures .0) _ (o .i) (o .words) _ (start l .pre .0) (start l .pre .3) (t .loop-test .taken) (o .inv .1) (b .value-bits .ensures)
           (n .named-row .ensures) (p .put-code .ensures),
     )
 

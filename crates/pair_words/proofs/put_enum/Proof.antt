@@ -1,6 +1,10 @@
 -- `pair_words::put_enum` meets its contract: by whether there is a span, and room for it. Assumes nothing.
+use mathlib.Core.Path.{subst}
 use native.Mathlib.Omega.{arith}
 use borrow.Author.Needs.{needs}
+use Rattle.datatype.specs.WellFormed.{WellFormedLeaf}
+use Rattle.namesakes.proofs.Named.{symbols-once}
+use Rattle.plans.proofs.LeafSteps.{leaf-enum}
 use Rattle.plans.proofs.Spans.{symbols-formed, pair-valid, span-asked, put-looked, put-spanned}
 use Rattle.pair_words.proofs.put_enum.Statement.{statement}
 use Rattle.pair_words.proofs.put_enum.Tie as tie
@@ -23,7 +27,8 @@ put-span-requires c κs =
     let n = p .before .before .before .before in
     let o = n .before .before in
     let x = o .before .before .before .before .before .before in
-    span-asked _ _ _ _ _ _ _ _ _ _ (x .pre .2) (x .pre .0) (rw (n .low .given .1) at (o .span-of .ensures)) (p .put-four2 .ensures)
+    let room = span-asked _ _ _ _ _ _ _ _ _ _ (x .pre .2) (x .pre .0) (rw (n .low .given .1) at (o .span-of .ensures)) (p .put-four2 .ensures) in
+    (room .0, room .1, symbols-once _ _ _ _ _ (subst WellFormedLeaf (leaf-enum _ _ _ (x .pre .1)) (x .pre .0 .destination) .symbols), room .2, room .3)
 
 returns-2 : tie.Need-returns-2
 returns-2 c =
