@@ -2,7 +2,6 @@
 use mathlib.Core.Path.{_≡_}
 use mathlib.Core.List.{List}
 use Prim.Native.Nat.{ℕ, zero, suc, _+_}
-use Rattle.layout.specs.declared.Layout.{Layout}
 use Rattle.table.specs.Table.{layoutAt}
 use Rattle.column_words.specs.Fill.{keepOf}
 use Rattle.plans.specs.PlanWords.{toByte, destinationType}
