@@ -1,5 +1,6 @@
 // How many records make a block.
-ghost use Prim.Native.Nat.{_*_, _≤_};
+ghost use mathlib.Core.Path.{_≡_};
+ghost use Prim.Native.Nat.{_*_, _≤_, _<_};
 
 // The most records of a block: as many numbers of a column are held at once.
 pub const BLOCK: usize = 256;
@@ -23,9 +24,10 @@ pub struct Progress {
     pub raised: u64,
 }
 
+// The lower of two counts: the first one, where it is not all of the second.
 pub fn least(a: usize, b: usize) -> usize
     requires { ⌜ (1 ≤ a) × (1 ≤ b) ⌝ }
-    ensures { λ r. ⌜ (1 ≤ r) × (r ≤ a) × (r ≤ b) ⌝ }
+    ensures { λ r. ⌜ (1 ≤ r) × (r ≤ a) × (r ≤ b) × (r < b → r ≡ a) ⌝ }
 {
     if a < b { a } else { b }
 }

@@ -11,15 +11,8 @@ ghost use Rattle.blocks.specs.Blocks.{eachOf, raisedOver};
 ghost use Rattle.symbol_slots.specs.Tables.{TablesKept, Columned};
 ghost use Rattle.whole_writes.specs.Writes.{WritesEach};
 ghost use Rattle.block_parts.specs.Parts.{InParts};
+use block_sizes::least;
 use staged_block::replace_block;
-
-// The lower of two counts: the first one, where it is not all of the second.
-fn lower(a: usize, b: usize) -> usize
-    requires { ⌜ (1 ≤ a) × (1 ≤ b) ⌝ }
-    ensures { λ r. ⌜ (1 ≤ r) × (r ≤ a) × (r ≤ b) × (r < b → r ≡ a) ⌝ }
-{
-    if a < b { a } else { b }
-}
 
 // How many of i records go next, where records grow: those whose results lie behind all i source records, which can so go from the first of them on; where these are no more than a block,
 // the last block.
@@ -31,7 +24,7 @@ pub fn last_records(i: usize, at_once: usize, source_size: usize, destination_si
     if first + at_once < i {
         return i - first;
     }
-    lower(at_once, i)
+    least(at_once, i)
 }
 
 // The k source records from record i on become result records over those of the background, so many at once. Where they are more, their results lie behind all of them.
@@ -61,7 +54,7 @@ pub fn replace_records(
     let mut raised: u64 = 0;
     let mut j: usize = 0;
     while j < k {
-        let more = lower(at_once, k - j);
+        let more = least(at_once, k - j);
         raised += replace_block(
             buf,
             background,

@@ -30,4 +30,4 @@ last-records-spec =
     (λ c. search needs)
     returns
     (λ c κs. search needs)
-    (λ c. (c .lower .ensures .0, c .lower .ensures .2, λ more. absurd (omega (arith, more, c .lower .ensures .1)))))
+    (λ c. (c .least .ensures .0, c .least .ensures .2, λ more. absurd (omega (arith, more, c .least .ensures .1)))))

@@ -34,8 +34,8 @@ replace-block-requires c κs =
     let start = c .before .before .before .before .before .before .before .before .before .before .before .before .before .before .before .before .before .before in
     let a = start .args in
     let l = c .before .before .before .before .before .before .before .loop in
-    let more = c .before .before .before .before .before .lower .result in
-    let few = c .before .before .before .before .before .lower .ensures in
+    let more = c .before .before .before .before .before .least .result in
+    let few = c .before .before .before .before .before .least .ensures in
     let within : a .i + l .j + more ≤ a .i + a .k = omega (arith, few .2, c .before .before .before .before .before .before .loop-test .taken) in
     let reads = block-rows (a .i + l .j) more (a .i + a .k) (a .source-size) within in
     let writes = block-rows (a .i + l .j) more (a .i + a .k) (a .destination-size) within in
@@ -58,16 +58,16 @@ replace-block-requires c κs =
 
 -- one block more
 next : (c : tie.After-replace-block Inv-loop μ-loop)
-    → (let a = c .before .before .before .before .before .before .before .before .before .before .before .before .before .before .before .before .before .before .before .args in let l = c .before .before .before .before .before .before .before .before .loop in let more = c .before .before .before .before .before .before .lower .result in
+    → (let a = c .before .before .before .before .before .before .before .before .before .before .before .before .before .before .before .before .before .before .before .args in let l = c .before .before .before .before .before .before .before .before .loop in let more = c .before .before .before .before .before .before .least .result in
     (words : List ℕ) (p : Ready (a .source-size) (a .destination-size) (a .plan .now) (a .entries) (a .source-half .now) (a .destination-half .now) words) → Columned (a .tables .now) (a .plan .now) (a .entries) words → TablesKept (a .tables .now) (a .source-half .now) (p .sourceText) (a .destination-half .now) (p .destinationText)
     → Made p (a .buf .now) (a .background .now) (a .i) (l .j + more) (c .replace-block .last .0) (l .raised + c .replace-block .result))
 next c words p has kept =
     let start = c .before .before .before .before .before .before .before .before .before .before .before .before .before .before .before .before .before .before .before in
     let a = start .args in
     let l = c .before .before .before .before .before .before .before .before .loop in
-    let more = c .before .before .before .before .before .before .lower .result in
+    let more = c .before .before .before .before .before .before .least .result in
     let test = c .before .before .before .before .before .before .before .loop-test .taken in
-    let within : l .j + more ≤ a .k = omega (arith, c .before .before .before .before .before .before .lower .ensures .2, test) in
+    let within : l .j + more ≤ a .k = omega (arith, c .before .before .before .before .before .before .least .ensures .2, test) in
     let reads = block-rows (l .j) more (a .k) (a .source-size) within in
     let writes = block-rows (l .j) more (a .k) (a .destination-size) within in
     made-more p (a .buf .now) (a .background .now) (a .i) (l .j) more (omega (arith, reads, start .pre .9)) (omega (arith, writes, start .pre .10)) (omega (arith, writes, start .pre .11)) (λ some. omega (arith, reads, start .pre .13 (l .inv .7 some test))) (l .inv .8 words p has kept) (c .replace-block .ensures .0 words p has kept)
@@ -77,25 +77,25 @@ add-raised c =
     let start = c .before .before .before .before .before .before .before .before .before .before .before .before .before .before .before .before .before .before .before .before .before .before .before .before .before .before .before .before .before in
     let a = start .args in
     let l = c .before .before .before .before .before .before .before .before .before .before .before .before .before .before .before .before .before .before .loop in
-    let more = c .before .before .before .before .before .before .before .before .before .before .before .before .before .before .before .before .lower .result in
+    let more = c .before .before .before .before .before .before .before .before .before .before .before .before .before .before .before .before .least .result in
     let p = start .pre .0 .1 in
-    omega (arith, next (c .before .before .before .before .before .before .before .before .before .before) (start .pre .0 .0) p (start .pre .0 .2) (start .pre .0 .3) .1, raised-few p (take ((l .j + more) * a .source-size) (drop (a .i * a .source-size) (a .buf .now))) (l .j + more), c .before .before .before .before .before .before .before .before .before .before .before .before .before .before .before .before .lower .ensures .2, c .before .before .before .before .before .before .before .before .before .before .before .before .before .before .before .before .before .loop-test .taken, start .pre .5)
+    omega (arith, next (c .before .before .before .before .before .before .before .before .before .before) (start .pre .0 .0) p (start .pre .0 .2) (start .pre .0 .3) .1, raised-few p (take ((l .j + more) * a .source-size) (drop (a .i * a .source-size) (a .buf .now))) (l .j + more), c .before .before .before .before .before .before .before .before .before .before .before .before .before .before .before .before .least .ensures .2, c .before .before .before .before .before .before .before .before .before .before .before .before .before .before .before .before .before .loop-test .taken, start .pre .5)
 
 loop-again : tie.Need-loop-again Inv-loop μ-loop
 loop-again c =
     let start = c .before .before .before .before .before .before .before .before .before .before .before .before .before .before .before .before .before .before .before .before .before .before .before .before .before .before .before .before .before in
     let l = c .before .before .before .before .before .before .before .before .before .before .before .before .before .before .before .before .before .before .loop in
-    let lower = c .before .before .before .before .before .before .before .before .before .before .before .before .before .before .before .before .lower .ensures in
+    let least = c .before .before .before .before .before .before .before .before .before .before .before .before .before .before .before .before .least .ensures in
     let test = c .before .before .before .before .before .before .before .before .before .before .before .before .before .before .before .before .before .loop-test .taken in
     let o = c .before .before .before .before .before .before .before .before .before .before .replace-block in (
-      omega (arith, lower .2, test),
+      omega (arith, least .2, test),
       o .kept .0 ∙ l .inv .1,
       o .kept .1 .1 .0 ∙ l .inv .2,
       o .kept .1 .1 .1 .1 .1 .1 .1 .1 .1 .1 .1 .1 .1 .0 ∙ l .inv .3,
       o .kept .1 .1 .1 .1 .1 .1 .1 .1 .1 .1 .1 .1 .1 .1 .0 ∙ l .inv .4,
       o .kept .1 .1 .1 .1 .1 .1 .1 .1 .1 .1 .1 .1 .1 .1 .1 .0 ∙ l .inv .5,
       o .ensures .1,
-      (λ some left. omega (arith, lower .3 (omega (arith, left)), left)),
+      (λ some left. omega (arith, least .3 (omega (arith, left)), left)),
       next (c .before .before .before .before .before .before .before .before .before .before),
     )
 
@@ -117,8 +117,8 @@ replace-records-spec =
     (λ c. omega (arith, c .before .before .before .before .before .before .before .before .before .before .before .before .before .before .before .pre .5, c .before .before .before .loop-test .taken))
     replace-block-requires
     add-raised
-    (λ c. omega (arith, c .before .before .before .before .before .before .before .before .before .before .before .before .before .before .before .before .before .before .before .before .before .before .before .before .before .before .before .before .before .pre .5, c .before .before .before .before .before .before .before .before .before .before .before .before .before .before .before .before .lower .ensures .2, c .before .before .before .before .before .before .before .before .before .before .before .before .before .before .before .before .before .loop-test .taken))
-    (λ c. omega (arith, c .before .before .before .before .before .before .before .before .before .before .before .before .before .before .before .before .lower .ensures, c .before .before .before .before .before .before .before .before .before .before .before .before .before .before .before .before .before .loop-test .taken))
+    (λ c. omega (arith, c .before .before .before .before .before .before .before .before .before .before .before .before .before .before .before .before .before .before .before .before .before .before .before .before .before .before .before .before .before .pre .5, c .before .before .before .before .before .before .before .before .before .before .before .before .before .before .before .before .least .ensures .2, c .before .before .before .before .before .before .before .before .before .before .before .before .before .before .before .before .before .loop-test .taken))
+    (λ c. omega (arith, c .before .before .before .before .before .before .before .before .before .before .before .before .before .before .before .before .least .ensures, c .before .before .before .before .before .before .before .before .before .before .before .before .before .before .before .before .before .loop-test .taken))
     loop-again
     (λ c. c .before .loop .inv .1)
     (λ c. c .before .loop .inv .2)
