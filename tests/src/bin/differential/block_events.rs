@@ -12,6 +12,9 @@ use independent::datatype::{Datatype, Pad};
 use independent::number;
 use independent::paths::Match;
 
+/// From so many records on the library asks whether each byte is written.
+const WRITTEN: u64 = 64;
+
 /// What every form must have met.
 const EACH: [&str; 17] = [
     "one block",
@@ -47,8 +50,12 @@ const STOPPING: [&str; 9] = [
 ];
 
 /// What the forms in place must have met.
-const IN_PLACE: [&str; 4] = [
-    "several that grow",
+const IN_PLACE: [&str; 8] = [
+    "several of which each byte is written",
+    "several with a byte that is not written",
+    "several with all bytes written, one with a kept bit",
+    "several that grow, all from the last on",
+    "several that grow, some from the first of them on",
     "several that shrink",
     "several of one size",
     "8 records of more than 512 bytes",
@@ -197,11 +204,19 @@ fn note_done(
         saw(several && !matches.is_empty(), "none of several stops");
     }
     if !run.form.is_copying() {
-        saw(several && from.size() < to.size(), "several that grow");
+        let grow = several && from.size() < to.size();
+        // Their results lie behind all sources.
+        let before = (run.count * from.size()).div_ceil(to.size());
+        let forward = grow && before + block < run.count;
+        saw(forward, "several that grow, some from the first of them on");
+        saw(grow && !forward, "several that grow, all from the last on");
         saw(several && from.size() > to.size(), "several that shrink");
         saw(several && from.size() == to.size(), "several of one size");
         let long = from.size() > 512 && run.count >= FEWEST;
         saw(long, "8 records of more than 512 bytes");
+        if several && run.count >= WRITTEN {
+            note_written(saw, to, matches);
+        }
     }
     if several {
         note_leaves(saw, run, raised, block, (from, to), matches);
@@ -211,6 +226,23 @@ fn note_done(
         let compounds = matches!(element.to, Datatype::Comp { .. });
         saw(compounds, "an array of compounds");
     }
+}
+
+/// Whether result records take anything from their background.
+fn note_written(saw: &mut impl FnMut(bool, &str), to: &Datatype, matches: &[Match]) {
+    let written: u64 = matches.iter().map(|pair| pair.to.datatype.size()).sum();
+    let (all, kept) = (written == to.size(), matches.iter().any(keeps));
+    saw(all && !kept, "several of which each byte is written");
+    saw(!all, "several with a byte that is not written");
+    let event = "several with all bytes written, one with a kept bit";
+    saw(all && kept, event);
+}
+
+/// Whether a destination leaf has a bit that is the background's.
+fn keeps(pair: &Match) -> bool {
+    let layout = number::layout(pair.to.datatype);
+    let above = 8 * layout.size - layout.precision - layout.offset;
+    (layout.lsb == Pad::Keep && layout.offset > 0) || (layout.msb == Pad::Keep && above > 0)
 }
 
 /// What the leaves of several blocks of records are, and what they raise.
@@ -232,11 +264,6 @@ fn note_leaves(
     saw(ints && an_enum, "an enum among ints");
     let a_real = is(|leaf| matches!(leaf, Datatype::Real(_)));
     saw(ints && a_real, "a real among ints");
-    let keeps = |pair: &Match| {
-        let layout = number::layout(pair.to.datatype);
-        let above = 8 * layout.size - layout.precision - layout.offset;
-        (layout.lsb == Pad::Keep && layout.offset > 0) || (layout.msb == Pad::Keep && above > 0)
-    };
     saw(matches.iter().any(keeps), "a kept pad");
     saw(repeats(from) && repeats(to), "members that repeat evenly");
     if raised > 0 {
