@@ -4,12 +4,12 @@
 //! another.
 
 use crate::convert;
-use crate::generate::{atomic, place};
+use crate::generate::{all_of_2_bytes, atomic, place};
 use crate::model::{Line, Model, Name, Row};
 use crate::random::Random;
 use crate::run::Run;
 use crate::tally::Tally;
-use independent::datatype::{Atomic, Datatype};
+use independent::datatype::Datatype;
 use independent::sheet;
 use std::collections::BTreeSet;
 
@@ -111,13 +111,7 @@ fn symbols(random: &mut Random) -> (Model, Model) {
 }
 
 fn enumeration(random: &mut Random, model: &mut Model, names: &[Name]) {
-    let layout = Atomic {
-        size: 2,
-        offset: 0,
-        precision: 16,
-        ..atomic(random, 1)
-    };
-    let base = model.push(Line::Int(layout));
+    let base = model.push(Line::Int(all_of_2_bytes(random)));
     let step = random.between(1, 40) as i128;
     let low = model.range(base).0;
     let value = |(i, name): (usize, &Name)| (name.clone(), low + step * i as i128);

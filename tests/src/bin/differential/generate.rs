@@ -438,6 +438,16 @@ pub fn order(random: &mut Random) -> Order {
     *random.pick(&[Order::LittleEndian, Order::BigEndian])
 }
 
+/// All bits of 2 bytes, in any order, with a sign or without.
+pub fn all_of_2_bytes(random: &mut Random) -> Atomic {
+    Atomic {
+        size: 2,
+        offset: 0,
+        precision: 16,
+        ..atomic(random, 1)
+    }
+}
+
 /// Any valid atomic layout of at most `bytes` bytes.
 pub fn atomic(random: &mut Random, bytes: u64) -> Atomic {
     let size = random.between(1, bytes.min(8));

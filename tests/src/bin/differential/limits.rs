@@ -3,7 +3,6 @@
 use crate::generate::{self, Maker, atomic};
 use crate::model::{Line, Model, Row};
 use crate::random::Random;
-use independent::datatype::Atomic;
 
 /// A sheet at some limit; half of them are one past it.
 pub fn sheet(random: &mut Random) -> Vec<u8> {
@@ -50,13 +49,7 @@ fn types(random: &mut Random, count: usize) -> Model {
 /// An enum with so many values.
 fn values(random: &mut Random, count: usize) -> Model {
     let mut model = Model::default();
-    let layout = Atomic {
-        size: 2,
-        offset: 0,
-        precision: 16,
-        ..atomic(random, 1)
-    };
-    let base = model.push(Line::Int(layout));
+    let base = model.push(Line::Int(generate::all_of_2_bytes(random)));
     let mut values = Vec::new();
     while values.len() < count {
         generate::add_value(random, model.range(base), &mut values);
