@@ -72,3 +72,15 @@ module _ (s d : ℕ) (es : List Entry) (sound : AllSound s d es) (k : ℕ) where
       let under : e1 ≡ b ++ drop (k * d) (drop at buf) = (simp (hn, tail-lent) at h2) ∙ sym (take-append-drop (k * d) (drop at buf)) in
       let over = staged-over buf b g g1 e1 e2 from at r hs hd lb h1 under done in
       (over .0 ∙ ap (λ (x : List ℕ). put at (k * d) x buf) (alike refl a b (take (k * d) (drop at bg)) lb lg), over .1)
+
+  -- the same, where buf with the background's bytes is b1
+  pub staged-laid : (whole : Bool) → (whole ≡ true → (src x y : List ℕ) → length x ≡ k * d → length y ≡ k * d → eachOf es s d src k x ≡ eachOf es s d src k y)
+      → (buf bg g g1 b1 e2 : List ℕ) (from at r n : ℕ) → from + k * s ≤ length buf → at + k * d ≤ length buf → at + k * d ≤ length bg → n ≡ cond whole 0 (k * d)
+      → g1 ≡ take (k * s) (take (length buf - from) (drop from buf)) ++ drop (k * s) g
+      → b1 ≡ putMid at (length buf - at) buf (take n (take (length bg - at) (drop at bg)) ++ drop n (take (length buf - at) (drop at buf)))
+      → (let part : List ℕ = take (length b1 - at) (drop at b1) in
+      (e2 ≡ eachOf es s d g1 k part) × (r ≡ raisedOver es s g1 k)
+      → (putMid at (length b1 - at) b1 e2 ≡ put at (k * d) (eachOf es s d (take (k * s) (drop from buf)) k (take (k * d) (drop at bg))) buf)
+      × (r ≡ raisedOver es s (take (k * s) (drop from buf)) k))
+  staged-laid whole alike buf bg g g1 b1 e2 from at r n hs hd hb hn h1 h2 =
+      rw h2 (staged-block whole alike buf bg g g1 (take n (take (length bg - at) (drop at bg)) ++ drop n (take (length buf - at) (drop at buf))) e2 from at r n hs hd hb hn h1 refl)
