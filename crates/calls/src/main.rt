@@ -1,6 +1,5 @@
 // Whole calls: the exercises of document 01 that are not in the proved table.
 use convert::convert_copying;
-use convert::convert_copying_plain;
 use shown::show;
 use shown::show_answer;
 use shown::show_bytes;
@@ -43,10 +42,11 @@ fn case_3() {
     show(b"FF unsigned to signed clamped");
     let mut written = [0x00u8];
     let mut table = [7u32; 8192];
-    let a = convert_copying_plain(
+    let a = convert_copying(
         b"int\t1\tLE\t0\t8\tzero\tzero\tunsigned\n",
         b"int\t1\tLE\t0\t8\tzero\tzero\tsigned\n",
         1,
+        0,
         b"\xff",
         &mut written,
         &mut table,

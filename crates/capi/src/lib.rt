@@ -34,7 +34,7 @@ pub extern "C" fn yirvagul_convert_copying(
     give(a, words)
 }
 
-// Copying, with handling 0.
+// Copying, without handling: it stops.
 #[no_mangle]
 pub extern "C" fn yirvagul_convert_copying_plain(
     source_sheet: &[u8],
@@ -84,7 +84,7 @@ pub extern "C" fn yirvagul_convert_in_place(
     give(a, words)
 }
 
-// In place, with handling 0.
+// In place, without handling: it stops.
 #[no_mangle]
 pub extern "C" fn yirvagul_convert_in_place_plain(
     source_sheet: &[u8],

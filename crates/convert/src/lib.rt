@@ -101,6 +101,9 @@ fn convert_within(
     }
 }
 
+// Handling 1: a number that does not fit refuses the call. No other handling is larger.
+const STOP: u32 = 1;
+
 // Copying: the destination's own bytes are the background.
 pub fn convert_copying(
     source_sheet: &[u8],
@@ -113,7 +116,7 @@ pub fn convert_copying(
 ) -> Answer
     ensures { λ r. ⌜ Answers (copyingRun (now («source_sheet» .entry)) (now («destination_sheet» .entry)) count handling (now (source .entry)) (now (destination .entry)) (now (table .entry))) r (now (destination .exit)) (now (table .exit)) ⌝ }
 {
-    if 1 < handling {
+    if STOP < handling {
         return Answer::Handling;
     }
     if table.len() < TABLE {
@@ -133,7 +136,7 @@ pub fn convert_copying(
     r
 }
 
-// Copying, with handling 0.
+// Copying, without handling: it stops.
 pub fn convert_copying_plain(
     source_sheet: &[u8],
     destination_sheet: &[u8],
@@ -148,9 +151,31 @@ pub fn convert_copying_plain(
         source_sheet,
         destination_sheet,
         count,
-        0,
+        STOP,
         source,
         destination,
+        table,
+    )
+}
+
+// In place, without handling: it stops.
+pub fn convert_in_place_plain(
+    source_sheet: &[u8],
+    destination_sheet: &[u8],
+    count: u64,
+    buffer: &mut [u8],
+    background: &[u8],
+    table: &mut [u32],
+) -> Answer
+    ensures { λ r. ⌜ Answers (inPlaceRun (now («source_sheet» .entry)) (now («destination_sheet» .entry)) count plain (now (buffer .entry)) (now (background .entry)) (now (table .entry))) r (now (buffer .exit)) (now (table .exit)) ⌝ }
+{
+    convert_in_place(
+        source_sheet,
+        destination_sheet,
+        count,
+        STOP,
+        buffer,
+        background,
         table,
     )
 }
@@ -167,7 +192,7 @@ pub fn convert_in_place(
 ) -> Answer
     ensures { λ r. ⌜ Answers (inPlaceRun (now («source_sheet» .entry)) (now («destination_sheet» .entry)) count handling (now (buffer .entry)) (now (background .entry)) (now (table .entry))) r (now (buffer .exit)) (now (table .exit)) ⌝ }
 {
-    if 1 < handling {
+    if STOP < handling {
         return Answer::Handling;
     }
     if table.len() < TABLE {
@@ -185,26 +210,4 @@ pub fn convert_in_place(
     );
     clear(table, TABLE);
     r
-}
-
-// In place, with handling 0.
-pub fn convert_in_place_plain(
-    source_sheet: &[u8],
-    destination_sheet: &[u8],
-    count: u64,
-    buffer: &mut [u8],
-    background: &[u8],
-    table: &mut [u32],
-) -> Answer
-    ensures { λ r. ⌜ Answers (inPlaceRun (now («source_sheet» .entry)) (now («destination_sheet» .entry)) count plain (now (buffer .entry)) (now (background .entry)) (now (table .entry))) r (now (buffer .exit)) (now (table .exit)) ⌝ }
-{
-    convert_in_place(
-        source_sheet,
-        destination_sheet,
-        count,
-        0,
-        buffer,
-        background,
-        table,
-    )
 }

@@ -3,7 +3,7 @@ use mathlib.Core.Path.{_≡_}
 use mathlib.Core.List.{List}
 use Prim.Native.Nat.{ℕ}
 use Rattle.datatype.specs.Datatype.{Datatype, size}
-use Rattle.runs.specs.Run.{Form, Run, plain}
+use Rattle.runs.specs.Run.{Form, Run, clamp}
 use Rattle.promises.specs.Promise.{answerFields, IsDone, DoneWithoutException, SameCall, SameBackground, SameConverted, SameEffect}
 use Rattle.masks.specs.Says.{Significant}
 use Rattle.reaches.specs.Call.{Call, maskAfter}
@@ -35,7 +35,7 @@ abbrev pub runOn : Call → Form → ℕ → List ℕ → List ℕ → List ℕ 
 runOn c form n background table source =
     record {
       form = form;
-      handling = plain;
+      handling = clamp;
       sourceSheet = c .sourceSheet;
       destinationSheet = c .destinationSheet;
       count = n;

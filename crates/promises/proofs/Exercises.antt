@@ -40,7 +40,7 @@ use Rattle.sheet.specs.Sheet as sheet
 use Rattle.records.specs.Record as one
 use Rattle.records.specs.Records as many
 use Rattle.runs.specs.Run as runs
-use Rattle.runs.specs.Run.{Run, copyingRun, inPlaceRun, plain, answer, after}
+use Rattle.runs.specs.Run.{Run, copyingRun, inPlaceRun, clamp, plain, answer, after}
 use Rattle.leaf_lines.specs.LeafList as lists
 use Rattle.leaves.specs.Call as listing
 use Rattle.leaves.specs.Call.{answerOf, listAfter}
@@ -69,7 +69,7 @@ solve : Exercise → Solution
 solve (store l z background) = bytesAndKind (stored l 0 (fitted l z .raw) background) (fitted l z .kind)
 solve (read l bs) = number (numberAt l 0 bs)
 solve (convert s d from over) =
-    bytesAndKind (after (copyingRun (bytes s) (bytes d) 1 plain from over words)) (valuesOf (answer (copyingRun (bytes s) (bytes d) 1 1 from over words)) .kind)
+    bytesAndKind (after (copyingRun (bytes s) (bytes d) 1 clamp from over words)) (valuesOf (answer (copyingRun (bytes s) (bytes d) 1 plain from over words)) .kind)
 solve (set l e) = edited (numberOf (edit e l .answer)) (edit e l .layout)
 solve (run r) = answered (answer r) (after r)
 solve (list s) = answered (answerOf (bytes s) 100 8192) (listAfter (bytes s) (replicate 100 0) 8192)
@@ -185,6 +185,19 @@ rows =
     ∷ record {
       exercise = run (copyingRun (bytes unsignedByte) (bytes signedByte) 2 1 (0x01 ∷ 0xff ∷ []) (0x55 ∷ 0x66 ∷ []) words);
       solution = answered (Stop 1 0 1 (Whole false 255)) (0x55 ∷ 0x66 ∷ []);
+    }
+    -- the plain forms stop, both records as they were; handling 0 clamps
+    ∷ record {
+      exercise = run (copyingRun (bytes unsignedByte) (bytes signedByte) 2 plain (0x01 ∷ 0xff ∷ []) (0x55 ∷ 0x66 ∷ []) words);
+      solution = answered (Stop 1 0 1 (Whole false 255)) (0x55 ∷ 0x66 ∷ []);
+    }
+    ∷ record {
+      exercise = run (inPlaceRun (bytes unsignedByte) (bytes signedByte) 2 plain (0x01 ∷ 0xff ∷ []) (0x55 ∷ 0x66 ∷ []) words);
+      solution = answered (Stop 1 0 1 (Whole false 255)) (0x01 ∷ 0xff ∷ []);
+    }
+    ∷ record {
+      exercise = run (copyingRun (bytes unsignedByte) (bytes signedByte) 2 clamp (0x01 ∷ 0xff ∷ []) (0x55 ∷ 0x66 ∷ []) words);
+      solution = answered (Done 1) (0x01 ∷ 0x7f ∷ []);
     }
     -- a STOP names the number that was given: of −2^63 the magnitude, of an enum the source's number, of a real its 64 bits
     ∷ record {

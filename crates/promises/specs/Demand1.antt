@@ -1,5 +1,5 @@
 -- Demand 1: which number a run answers, and every field beside it. Document 01's table "Numbers of refusal, in the order of checks", row by row in its own
--- words; document 02, 2026-07: "12 SYMBOLS, between PATH and COUNT". A plain form is a run with handling 0. What the table says of setters and of the leaf list is not here: no run is one.
+-- words; document 02, 2026-07: "12 SYMBOLS, between PATH and COUNT". A plain form is a run with handling 1 (2026-10). What the table says of setters and of the leaf list is not here: no run is one.
 use mathlib.Core.Path.{_≡_}
 use mathlib.Core.Logic.{_⊎_, _↔_}
 use mathlib.Core.List.{List, [], _∷_}

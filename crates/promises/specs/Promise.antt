@@ -1,5 +1,5 @@
 -- What is promised of whole calls, over all their records: demands 2 and 3, and what the buffer that a call writes holds. Each statement is about runs,
--- as they are defined in crate runs, and the form is a field of a run, so each speaks of every form; a plain form is a run with handling 0.
+-- as they are defined in crate runs, and the form is a field of a run, so each speaks of every form; a plain form is a run with handling 1 (2026-10).
 use mathlib.Core.Path.{_≡_}
 use mathlib.Core.Logic.{_⊎_, _↔_}
 use mathlib.Core.Bool.{true}

@@ -19,7 +19,7 @@ use Rattle.channels.specs.Report.{Report, words, heldIn}
 use Rattle.channels.specs.Says.{Adds}
 use Rattle.channels.specs.EachLeaf.{IntLeaf, rowOf, EachOnce, linesOf}
 use Rattle.reports.specs.Call.{Call, width, heldBefore, logAfter, memoryAfter}
-use Rattle.reports.specs.Parts.{written, plainRun}
+use Rattle.reports.specs.Parts.{written, clampingRun}
 
 -- the numbers that stand in the leaf y at byte b of n records of w bytes each
 unfoldable pub numbersIn : Leaf → ℕ → ℕ → ℕ → List ℕ → List ℤ
@@ -30,12 +30,12 @@ numbersIn y b w (suc n) buffer = numbersIn y b w n buffer ++ (numberIn y b (reco
 abbrev pub heldAfter : Call → Datatype → Report
 heldAfter c D = heldIn (width D) (memoryAfter c)
 
--- "Each log is converted by the plain in-place form and its exceptions are added up": that form, on the same log and background, is done and leaves the same
--- log, and its exceptions are those that were added
+-- "Each log is converted by the .. in-place form and its exceptions are added up", with handling 0 (2026-10): that form, on the same log and background, is done
+-- and leaves the same log, and its exceptions are those that were added
 pub record Converted (c : Call) (D : Datatype) : Type 0 where
   pub exceptions : ℕ
-  pub answer : runs.answer (plainRun c) ≡ Done exceptions
-  pub log : runs.after (plainRun c) ≡ logAfter c
+  pub answer : runs.answer (clampingRun c) ≡ Done exceptions
+  pub log : runs.after (clampingRun c) ≡ logAfter c
   pub added : heldAfter c D .exceptions ≡ heldBefore c D .exceptions +ℤ pos exceptions
 
 -- of a call that is done, with a source sheet of type S and a reader's sheet of type D

@@ -1,4 +1,4 @@
 pub mod Pieces
 pub mod Checks
-pub mod Plain
+pub mod Clamping
 pub mod Kept

@@ -7,7 +7,7 @@ use Rattle.answer.specs.Answer.{numberOf, valuesOf}
 use Rattle.datatype.specs.Datatype.{Datatype, size}
 use Rattle.sheet.specs.Sheet.{Sheet, sheetOf}
 use Rattle.sheet.specs.Sheet.Sheet.{ofType, faultyAt}
-use Rattle.runs.specs.Run.{Run, inPlaceRun, plain}
+use Rattle.runs.specs.Run.{Run, inPlaceRun, clamp}
 use Rattle.reports.specs.Call.{Call, answer, logAfter, outputAfter}
 
 -- ---- the answer
@@ -56,6 +56,7 @@ backgroundRecords c = take (c .count * readerSize c) (c .background)
 abbrev pub convertedRecords : Call → List ℕ
 convertedRecords c = take (c .count * readerSize c) (logAfter c)
 
--- "Each log is converted by the plain in-place form": the run of that form with the same sheets, count, log, background and table
-abbrev pub plainRun : Call → Run
-plainRun c = inPlaceRun (c .sourceSheet) (c .readerSheet) (c .count) plain (c .log) (c .background) (c .table)
+-- "Each log is converted by the .. in-place form", and document 02, 2026-10: "The season report names handling 0": the run of that form and that handling with the
+-- same sheets, count, log, background and table
+abbrev pub clampingRun : Call → Run
+clampingRun c = inPlaceRun (c .sourceSheet) (c .readerSheet) (c .count) clamp (c .log) (c .background) (c .table)

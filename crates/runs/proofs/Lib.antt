@@ -3,3 +3,4 @@ pub mod Exceptions
 pub mod Buffers
 pub mod Table
 pub mod Refusals
+pub mod Plain

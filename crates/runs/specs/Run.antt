@@ -31,9 +31,16 @@ pub record Run : Type 0 where
   pub background : List ℕ  -- the destination buffer; in place, the separate background
   pub table : List ℕ  -- the working table's words
 
--- "Each also has a plain form without handling, which clamps."
+-- "Handling 0 (clamp)", "handling 1 (stop)"
+abbrev pub clamp : ℕ
+clamp = 0
+
+abbrev pub stop : ℕ
+stop = 1
+
+-- "Each also has a plain form without handling"; document 02, 2026-10: "From now on the plain forms, in place and copying, handle as 1."
 abbrev pub plain : ℕ
-plain = 0
+plain = stop
 
 abbrev pub copyingRun : List ℕ → List ℕ → ℕ → ℕ → List ℕ → List ℕ → List ℕ → Run
 copyingRun ss ds n handling source destination table =

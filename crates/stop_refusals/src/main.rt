@@ -1,6 +1,8 @@
 // Whole calls that are refused with 8 STOP, which names the number that was given.
 use convert::convert_copying;
+use convert::convert_copying_plain;
 use convert::convert_in_place;
+use convert::convert_in_place_plain;
 use shown::show;
 use shown::show_answer;
 use shown::show_bytes;
@@ -73,9 +75,43 @@ fn case_4() {
     show_bytes(&written);
 }
 
+fn case_5() {
+    show(b"8 stop without handling");
+    let mut written = [0x55u8, 0x66];
+    let mut table = [7u32; 8192];
+    let a = convert_copying_plain(
+        b"int\t1\tLE\t0\t8\tzero\tzero\tunsigned\n",
+        b"int\t1\tLE\t0\t8\tzero\tzero\tsigned\n",
+        2,
+        b"\x01\xff",
+        &mut written,
+        &mut table,
+    );
+    show_answer(a);
+    show_bytes(&written);
+}
+
+fn case_6() {
+    show(b"8 stop in place without handling");
+    let mut written = [0x01u8, 0xff];
+    let mut table = [7u32; 8192];
+    let a = convert_in_place_plain(
+        b"int\t1\tLE\t0\t8\tzero\tzero\tunsigned\n",
+        b"int\t1\tLE\t0\t8\tzero\tzero\tsigned\n",
+        2,
+        &mut written,
+        b"\x55\x66",
+        &mut table,
+    );
+    show_answer(a);
+    show_bytes(&written);
+}
+
 fn main() {
     case_1();
     case_2();
     case_3();
     case_4();
+    case_5();
+    case_6();
 }

@@ -1,4 +1,4 @@
--- "Each log is converted by the plain in-place form and its exceptions are added up": the plain in-place run of a call that is done. Assumes nothing.
+-- "Each log is converted by the .. in-place form and its exceptions are added up": the in-place run with handling 0 of a call that is done. Assumes nothing.
 use mathlib.Core.Path.{_≡_, refl, sym, ap, _∙_}
 use lib.IntN.{pos, _+ℤ_}
 use Rattle.answer.specs.declared.Answer.the-variants.{Done}
@@ -9,15 +9,15 @@ use Rattle.runs.specs.Run.Checked.{passed}
 use Rattle.runs.proofs.Checks as run-checks
 use Rattle.runs.proofs.Buffers as run-buffers
 use Rattle.reports.specs.Call.{Call, width, heldBefore, reportOf, checks, logAfter, memoryAfter}
-use Rattle.reports.specs.Parts.{plainRun}
+use Rattle.reports.specs.Parts.{clampingRun}
 use Rattle.reports.proofs.Checks.{passed-tells, has-room, log-is, held-after}
 use Rattle.channels.specs.Report.{Report, heldIn}
 
 module _ (c : Call) (S D : Datatype) (e : checks c ≡ passed S D) where
-  plain-passes : runs.checks (plainRun c) ≡ passed S D
-  plain-passes =
+  run-passes : runs.checks (clampingRun c) ≡ passed S D
+  run-passes =
       let w = passed-tells c S D e in
-      run-checks.tells-passed (plainRun c) S D
+      run-checks.tells-passed (clampingRun c) S D
       (record {
         handling = refl;
         table = w .table;
@@ -30,12 +30,12 @@ module _ (c : Call) (S D : Datatype) (e : checks c ≡ passed S D) where
       })
 
   -- it is done with the exceptions that the call adds
-  pub plain-answer : runs.answer (plainRun c) ≡ Done (exceptions S D (c .count) (readings S D (c .log)))
-  plain-answer = run-buffers.answer-is (plainRun c) S D plain-passes
+  pub run-answer : runs.answer (clampingRun c) ≡ Done (exceptions S D (c .count) (readings S D (c .log)))
+  run-answer = run-buffers.answer-is (clampingRun c) S D run-passes
 
-  pub plain-log : runs.after (plainRun c) ≡ logAfter c
-  plain-log = run-buffers.after-is (plainRun c) S D plain-passes (exceptions S D (c .count) (readings S D (c .log))) plain-answer ∙ sym (log-is c S D e)
+  pub run-log : runs.after (clampingRun c) ≡ logAfter c
+  run-log = run-buffers.after-is (clampingRun c) S D run-passes (exceptions S D (c .count) (readings S D (c .log))) run-answer ∙ sym (log-is c S D e)
 
-  pub plain-exceptions : heldIn (width D) (memoryAfter c) .exceptions ≡ heldBefore c D .exceptions +ℤ pos (exceptions S D (c .count) (readings S D (c .log)))
+  pub run-exceptions : heldIn (width D) (memoryAfter c) .exceptions ≡ heldBefore c D .exceptions +ℤ pos (exceptions S D (c .count) (readings S D (c .log)))
   unfolding reportOf
-  plain-exceptions = ap (λ (s : Report). s .exceptions) (held-after c S D e)
+  run-exceptions = ap (λ (s : Report). s .exceptions) (held-after c S D e)
