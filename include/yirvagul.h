@@ -65,8 +65,8 @@ enum {
      * destination, the background or the second log for count * D, the in-place buffer or the log for count * max(S, D), the report's memory for its words,
      * the mask for S bytes, a list, or the report's output. Lend a longer one. */
     YIRVAGUL_ROOM = 7,
-    /* Handling is stop, and a number does not fit: the first such leaf is `at` bytes into destination record `record`, `kind` says why, and `given` and
-     * `magnitude` are the number. Give the destination a layout there that holds it, or convert with YIRVAGUL_CLAMP. */
+    /* Handling is stop, as in every plain form, and a number does not fit: the first such leaf is `at` bytes into destination record `record`, `kind` says
+     * why, and `given` and `magnitude` are the number. Give the destination a layout there that holds it, correct the log, or convert with YIRVAGUL_CLAMP. */
     YIRVAGUL_STOP = 8,
     /* A setter's argument or result is outside its rule, or the layout already was. Pass a valid layout and an argument within the rule. */
     YIRVAGUL_RANGE = 9,
@@ -145,12 +145,13 @@ enum {
 
 /* Converts count records of source into destination. The destination's own bytes are the background: bits that no matched leaf fixes stay, and so do
  * pads that are `keep`. Bytes behind the count records stay. The checks, in this order, are HANDLING, TABLE, SOURCE, DESTINATION, PATH, SYMBOLS, COUNT, ROOM
- * and STOP, for the four converting calls alike. */
+ * and STOP, for the four converting calls alike, but that a plain one has no HANDLING. */
 uint32_t yirvagul_convert_copying(const uint8_t *source_sheet, size_t source_sheet_len, const uint8_t *destination_sheet, size_t destination_sheet_len,
                                   uint64_t count, uint32_t handling, const uint8_t *source, size_t source_len, uint8_t *destination,
                                   size_t destination_len, uint32_t *table, size_t table_len, uint64_t answer[8]);
 
-/* The same without handling: it clamps, so it never answers HANDLING or STOP. */
+/* The same with YIRVAGUL_STOP_FIRST. At a STOP nothing was written, and the answer names the record, the byte, the kind and the number: correct the sheet or
+ * the log there, or name YIRVAGUL_CLAMP in yirvagul_convert_copying. */
 uint32_t yirvagul_convert_copying_plain(const uint8_t *source_sheet, size_t source_sheet_len, const uint8_t *destination_sheet,
                                         size_t destination_sheet_len, uint64_t count, const uint8_t *source, size_t source_len, uint8_t *destination,
                                         size_t destination_len, uint32_t *table, size_t table_len, uint64_t answer[8]);
@@ -162,7 +163,8 @@ uint32_t yirvagul_convert_in_place(const uint8_t *source_sheet, size_t source_sh
                                    uint64_t count, uint32_t handling, uint8_t *buffer, size_t buffer_len, const uint8_t *background,
                                    size_t background_len, uint32_t *table, size_t table_len, uint64_t answer[8]);
 
-/* The same without handling: it clamps. */
+/* The same with YIRVAGUL_STOP_FIRST. At a STOP nothing was written, and the answer names the record, the byte, the kind and the number: correct the sheet or
+ * the log there, or name YIRVAGUL_CLAMP in yirvagul_convert_in_place. */
 uint32_t yirvagul_convert_in_place_plain(const uint8_t *source_sheet, size_t source_sheet_len, const uint8_t *destination_sheet,
                                          size_t destination_sheet_len, uint64_t count, uint8_t *buffer, size_t buffer_len, const uint8_t *background,
                                          size_t background_len, uint32_t *table, size_t table_len, uint64_t answer[8]);
@@ -184,10 +186,10 @@ enum {
 /* Adds a log to a report and writes what the report then says. The memory is the report: zeros before its first log, and afterwards as the last call left
  * it, always with the same reader's sheet. Each log may have a source sheet of its own.
  *
- * The count records of the log are converted to the reader's layout as yirvagul_convert_in_place_plain does it, and the buffer is left as that call leaves
- * it. The numbers that then stand in a matched int leaf are its samples: its lowest, highest, sum and number of samples follow them. A number that was
- * clamped is a sample too, as is the 0 of a not-a-number, and one exception more. A leaf that the log does not match gets none. Reals of the reader's sheet
- * have no line and no words, as bits and enums have none; their exceptions are counted.
+ * The count records of the log are converted to the reader's layout as yirvagul_convert_in_place does it with YIRVAGUL_CLAMP, and the buffer is left as that
+ * call leaves it. The numbers that then stand in a matched int leaf are its samples: its lowest, highest, sum and number of samples follow them. A number
+ * that was clamped is a sample too, as is the 0 of a not-a-number, and one exception more. A leaf that the log does not match gets none. Reals of the reader's
+ * sheet have no line and no words, as bits and enums have none; their exceptions are counted.
  *
  * The output has a header, `at`, `lowest`, `highest`, `sum` and `samples` parted by tabs, and a line for each int leaf of the reader's sheet, in byte order,
  * in decimal; `-` stands for lowest and highest where there is no sample. Done gives the output's length; bytes past it stay. A count of 0 adds nothing and

@@ -407,6 +407,8 @@ static Call call(Form form, const char *what, const Sheet *from, const Sheet *to
 
 static int takes_handling(Form f) { return f == COPYING || f == IN_PLACE; }
 
+static int is_plain(Form f) { return f == COPYING_PLAIN || f == IN_PLACE_PLAIN; }
+
 /* ---- tests */
 
 static size_t size_of(const Sheet *s) {
@@ -440,7 +442,7 @@ static void test_converting(const Pair *p) {
             fill(p, c.count, high);
             for (handling = 0; handling <= takes_handling(c.form); handling++) {
                 c.handling = (uint32_t)handling;
-                expect(c, high && handling && p->stops ? YIRVAGUL_STOP : YIRVAGUL_DONE, most);
+                expect(c, high && (handling || is_plain(c.form)) && p->stops ? YIRVAGUL_STOP : YIRVAGUL_DONE, most);
             }
         }
         other = c, other.count = 65537, expect(other, YIRVAGUL_COUNT, most);

@@ -61,6 +61,18 @@ static uint32_t copying(const char *from, const char *to, uint64_t count, uint32
                                     source_len, destination, destination_len, table, YIRVAGUL_TABLE_WORDS, answer);
 }
 
+static uint32_t copying_plain(const char *from, const char *to, uint64_t count, const char *source, size_t source_len, uint8_t *destination,
+                              size_t destination_len) {
+    return yirvagul_convert_copying_plain((const uint8_t *)from, strlen(from), (const uint8_t *)to, strlen(to), count, (const uint8_t *)source, source_len,
+                                          destination, destination_len, table, YIRVAGUL_TABLE_WORDS, answer);
+}
+
+static uint32_t in_place_plain(const char *from, const char *to, uint64_t count, uint8_t *buffer, size_t buffer_len, const uint8_t *background,
+                               size_t background_len) {
+    return yirvagul_convert_in_place_plain((const uint8_t *)from, strlen(from), (const uint8_t *)to, strlen(to), count, buffer, buffer_len, background,
+                                           background_len, table, YIRVAGUL_TABLE_WORDS, answer);
+}
+
 static void test_copying(void) {
     uint8_t out[3] = {0x77, 0x77, 0x77};
     expect_answer(copying(BYTE, SIGNED_BYTE, 2, YIRVAGUL_CLAMP, "\xff\x05", 2, out, 3), 0, 1, 0, 0, 0, 0, "copying, one clamped");
@@ -74,10 +86,8 @@ static void test_copying(void) {
     expect_answer(copying(BYTE, SIGNED_BYTE, 3, 0, "\xff\x05", 2, out, 3), 7, 0, 0, 0, 0, 0, "ROOM");
     expect_stop(copying(BYTE, SIGNED_BYTE, 2, YIRVAGUL_STOP_FIRST, "\x05\xff", 2, out, 3), 1, 0, YIRVAGUL_ABOVE, YIRVAGUL_GIVEN_PLUS, 255, "STOP");
     expect_bytes(out, "\x77\x77\x77", 3, "a refusal leaves the destination");
-    expect_answer(yirvagul_convert_copying_plain((const uint8_t *)SIGNED_BYTE, strlen(SIGNED_BYTE), (const uint8_t *)PAIR, strlen(PAIR), 1,
-                                                 (const uint8_t *)"\xff", 1, out, 3, table, YIRVAGUL_TABLE_WORDS, answer),
-                  0, 1, 0, 0, 0, 0, "copying, plain");
-    expect_bytes(out, "\x00\x00\x77", 3, "copied bytes, plain");
+    expect_answer(copying(SIGNED_BYTE, PAIR, 1, YIRVAGUL_CLAMP, "\xff", 1, out, 3), 0, 1, 0, 0, 0, 0, "copying, clamped from below");
+    expect_bytes(out, "\x00\x00\x77", 3, "copied bytes, clamped from below");
 }
 
 static void test_in_place(void) {
@@ -87,9 +97,7 @@ static void test_in_place(void) {
                                             background, 4, table, YIRVAGUL_TABLE_WORDS, answer),
                   0, 0, 0, 0, 0, 0, "in place");
     expect_bytes(buffer, "\x00\x0a\x00\x0b", 4, "grown in place");
-    expect_answer(yirvagul_convert_in_place_plain((const uint8_t *)PAIR, strlen(PAIR), (const uint8_t *)BYTE, strlen(BYTE), 2, buffer, 4, background, 4,
-                                                  table, YIRVAGUL_TABLE_WORDS, answer),
-                  0, 0, 0, 0, 0, 0, "in place, plain");
+    expect_answer(in_place_plain(PAIR, BYTE, 2, buffer, 4, background, 4), 0, 0, 0, 0, 0, 0, "in place, plain");
     expect_bytes(buffer, "\x0a\x0b\x00\x00", 4, "shrunk in place, with a cleared tail");
     expect_answer(yirvagul_convert_in_place((const uint8_t *)BYTE, strlen(BYTE), (const uint8_t *)PAIR, strlen(PAIR), 2, 0, buffer, 3, background, 4,
                                             table, YIRVAGUL_TABLE_WORDS, answer),
@@ -147,9 +155,14 @@ static void test_many(void) {
         expect_stop(copying(SHORT_SHEET, LONG_SHEET, MANY, YIRVAGUL_STOP_FIRST, source, sizeof shorts, lent, sizeof lent), (uint64_t)unfit[i], 3,
                     YIRVAGUL_ABOVE, YIRVAGUL_GIVEN_PLUS, given, "STOP of 300");
         expect(memcmp(lent, under, sizeof lent) == 0, "STOP of 300 leaves the destination");
+        expect_stop(copying_plain(SHORT_SHEET, LONG_SHEET, MANY, source, sizeof shorts, lent, sizeof lent), (uint64_t)unfit[i], 3, YIRVAGUL_ABOVE,
+                    YIRVAGUL_GIVEN_PLUS, given, "STOP of 300, plain");
+        expect(memcmp(lent, under, sizeof lent) == 0, "STOP of 300, plain, leaves the destination");
         memcpy(lent, shorts, sizeof shorts);
         expect_stop(placed(SHORT_SHEET, LONG_SHEET, YIRVAGUL_STOP_FIRST, under, sizeof under), (uint64_t)unfit[i], 3, YIRVAGUL_ABOVE, YIRVAGUL_GIVEN_PLUS,
                     given, "STOP of 300 in place");
+        expect_stop(in_place_plain(SHORT_SHEET, LONG_SHEET, MANY, lent, sizeof lent, under, sizeof under), (uint64_t)unfit[i], 3, YIRVAGUL_ABOVE,
+                    YIRVAGUL_GIVEN_PLUS, given, "STOP of 300 in place, plain");
         expect(memcmp(lent, shorts, sizeof shorts) == 0, "STOP of 300 leaves the buffer");
     }
 }
@@ -246,12 +259,10 @@ static void test_symbols(void) {
     expect_answer(copying(valve, fewer, 65537, 0, "", 0, out, 8), 12, 0, 0, 0, 0, 0, "SYMBOLS before COUNT and ROOM");
     expect_answer(copying(first, no_path, 1, 0, "\0", 1, out, 8), 5, 0, 0, 0, 0, 0, "PATH before SYMBOLS");
     expect_answer(copying(first, nested, 1, 0, "\0\0", 2, out, 8), 12, 0, 0, 0, 0, 0, "SYMBOLS, in an array of a member");
-    expect_answer(yirvagul_convert_copying_plain(from, strlen(valve), to, strlen(fewer), 1, out, 1, out + 1, 1, table, YIRVAGUL_TABLE_WORDS, answer), 12, 0, 0,
-                  0, 0, 0, "SYMBOLS, plain");
+    expect_answer(copying_plain(valve, fewer, 1, "\0", 1, out, 8), 12, 0, 0, 0, 0, 0, "SYMBOLS, plain");
     expect_answer(yirvagul_convert_in_place(from, strlen(valve), to, strlen(fewer), 1, 0, out, 1, out + 1, 1, table, YIRVAGUL_TABLE_WORDS, answer), 12, 0, 0, 0,
                   0, 0, "SYMBOLS, in place");
-    expect_answer(yirvagul_convert_in_place_plain(from, strlen(valve), to, strlen(fewer), 1, out, 1, out + 1, 1, table, YIRVAGUL_TABLE_WORDS, answer), 12, 0,
-                  0, 0, 0, 0, "SYMBOLS, in place and plain");
+    expect_answer(in_place_plain(valve, fewer, 1, out, 1, out + 1, 1), 12, 0, 0, 0, 0, 0, "SYMBOLS, in place and plain");
     expect(out[0] == 0x77 && memcmp(out, out + 1, sizeof out - 1) == 0, "SYMBOLS leaves the buffers");
     expect_answer(copying(first, other, 1, 0, "\0\0", 2, out, 8), 0, 0, 0, 0, 0, 0, "enums of members that one sheet alone has");
     expect_answer(copying(none, fewer, 0, 0, "", 0, out, 8), 0, 0, 0, 0, 0, 0, "a source enum without values");
@@ -271,9 +282,9 @@ enum { WORDS = 7 }; /* of a report of one int, and one behind them */
 static uint8_t output[YIRVAGUL_REPORT_BYTES];
 
 static uint32_t report(const char *from, const char *reader, uint64_t count, uint8_t *log, size_t log_len, int64_t *memory, size_t words, size_t room) {
-    static const uint8_t background[4] = {0x55, 0x55, 0x55, 0x55};
-    return yirvagul_report((const uint8_t *)from, strlen(from), (const uint8_t *)reader, strlen(reader), count, log, log_len, background, 4, memory, words,
-                           output, room, table, YIRVAGUL_TABLE_WORDS, answer);
+    static const uint8_t background[16] = {0x55, 0x55, 0x55, 0x55};
+    return yirvagul_report((const uint8_t *)from, strlen(from), (const uint8_t *)reader, strlen(reader), count, log, log_len, background,
+                           sizeof background, memory, words, output, room, table, YIRVAGUL_TABLE_WORDS, answer);
 }
 
 /* Done, with this text, and no byte past it. */
@@ -333,6 +344,44 @@ static void test_report(void) {
     held[4] = INT64_MIN, expect_refused(BYTE, BYTE, 0, 0, held, WORDS, 100, YIRVAGUL_FULL, 0, "FULL, the lowest word");
     held[4] = -most, log[0] = 1;
     expect_report(report(BYTE, BYTE, 1, log, 1, held, 6, sizeof output), HEAD "0\t1\t9\t-4503599627370495\t3\n", "a word of 2^52");
+}
+
+/* ---- the plain forms */
+
+/* A pressure and a temperature, to a byte each, the temperature first. */
+#define SENT PAIR SIGNED_BYTE "comp\t3\nmember\tboost\t0\t0\nmember\toil\t2\t1\n"
+#define READ BYTE "comp\t2\nmember\toil\t0\t0\nmember\tboost\t1\t0\n"
+
+/* Three records stop both plain forms at this place, and no buffer is changed; the report clamps them, says this text and counts so many exceptions. */
+static void expect_plain_stop(const char *log, uint64_t record, uint64_t at, uint64_t kind, uint64_t given, uint64_t magnitude, const char *text,
+                              int64_t exceptions, const char *what) {
+    uint8_t out[7], buffer[10], background[6];
+    int64_t memory[11] = {0, 0, 0, 0, 0, 0, 0, 0, 0, 0, -7};
+    memset(out, 0x77, sizeof out), memset(background, 0x55, sizeof background);
+    memcpy(buffer, log, 9), buffer[9] = 0x77;
+    expect_stop(copying_plain(SENT, READ, 3, log, 9, out, 7), record, at, kind, given, magnitude, what);
+    expect_bytes(out, "\x77\x77\x77\x77\x77\x77\x77", 7, what);
+    expect_stop(in_place_plain(SENT, READ, 3, buffer, 10, background, 6), record, at, kind, given, magnitude, what);
+    expect(memcmp(buffer, log, 9) == 0 && buffer[9] == 0x77, what);
+    expect_bytes(background, "\x55\x55\x55\x55\x55\x55", 6, what);
+    expect_report(report(SENT, READ, 3, buffer, 9, memory, 11, sizeof output), text, what);
+    expect(memory[YIRVAGUL_REPORT_RECORDS] == 3 && memory[YIRVAGUL_REPORT_EXCEPTIONS] == exceptions && memory[10] == -7, what);
+}
+
+static void test_plain(void) {
+    const uint8_t background[6] = {0};
+    uint8_t out[7], buffer[10];
+    memset(out, 0x77, sizeof out), memset(output, 0x77, sizeof output);
+    memcpy(buffer, "\0\x09\x02\0\x07\x01\0\xff\x7f\x77", 10);
+    expect_answer(copying_plain(SENT, READ, 3, (const char *)buffer, 9, out, 7), 0, 0, 0, 0, 0, 0, "copying, plain");
+    expect_bytes(out, "\x02\x09\x01\x07\x7f\xff\x77", 7, "copied bytes, plain");
+    expect_answer(in_place_plain(SENT, READ, 3, buffer, 10, background, 6), 0, 0, 0, 0, 0, 0, "in place, plain, of a compound");
+    expect_bytes(buffer, "\x02\x09\x01\x07\x7f\xff\0\0\0\x77", 10, "converted bytes, plain");
+    /* -5 and 300, of which the first byte is named */
+    expect_plain_stop("\x01\x2c\xfb\0\x07\x01\0\xff\x7f", 0, 0, YIRVAGUL_BELOW, YIRVAGUL_GIVEN_MINUS, 5, HEAD "0\t0\t127\t128\t3\n1\t7\t255\t517\t3\n",
+                      2, "plain, the first record");
+    expect_plain_stop("\0\x09\x02\0\x07\x01\x01\0\x7f", 2, 1, YIRVAGUL_ABOVE, YIRVAGUL_GIVEN_PLUS, 256, HEAD "0\t1\t127\t130\t3\n1\t7\t255\t271\t3\n", 1,
+                      "plain, the last record");
 }
 
 /* A season of the largest report: the header's sizes hold it. */
@@ -649,6 +698,7 @@ int main(void) {
     test_given();
     test_symbols();
     test_report();
+    test_plain();
     test_largest_report();
     test_compare();
     test_longest_lines();

@@ -11,7 +11,7 @@ from unittest import mock
 
 import yirvagul
 from common import BITS, BYTE, CUSTOMER, PAIR, RIG, SIGNED
-from yirvagul import Handling, Number, Refusal, _library
+from yirvagul import Handling, Kind, Number, Refusal, Report, _library
 
 CLAMP, STOP = Handling.CLAMP, Handling.STOP
 
@@ -21,7 +21,7 @@ class Results(unittest.TestCase):
         out = bytearray(b"\x77\x77\x77")
         self.assertEqual(yirvagul.convert_copying(BYTE, SIGNED, 2, CLAMP, b"\xff\x05", out), 1)
         self.assertEqual(out, b"\x7f\x05\x77")
-        self.assertEqual(yirvagul.convert_copying_plain(SIGNED, PAIR, 1, b"\xff", out), 1)
+        self.assertEqual(yirvagul.convert_copying(SIGNED, PAIR, 1, CLAMP, b"\xff", out), 1)
         self.assertEqual(out, b"\x00\x00\x77")
 
     def test_in_place(self):
@@ -95,19 +95,15 @@ class Blocks(unittest.TestCase):
 
     def test_copying(self):
         numbers = self.numbers(0, 7, 255, 256, 299)
-        out, plain = bytearray(self.BACKGROUND), bytearray(self.BACKGROUND)
-        log, wanted = self.short(numbers), self.long(numbers)
-        self.assertEqual(yirvagul.convert_copying(self.SHORT, self.LONG, 300, CLAMP, log, out), 5)
-        self.assertEqual(yirvagul.convert_copying_plain(self.SHORT, self.LONG, 300, log, plain), 5)
-        self.assertEqual((out, plain), (wanted, wanted))
+        out = bytearray(self.BACKGROUND)
+        self.assertEqual(yirvagul.convert_copying(self.SHORT, self.LONG, 300, CLAMP, self.short(numbers), out), 5)
+        self.assertEqual(out, self.long(numbers))
 
     def test_in_place(self):
         numbers = self.numbers(0, 7, 255, 256, 299)
-        log = self.short(numbers) + b"\x77" * 600
-        buffer, plain = bytearray(log), bytearray(log)
+        buffer = bytearray(self.short(numbers) + b"\x77" * 600)
         self.assertEqual(yirvagul.convert_in_place(self.SHORT, self.LONG, 300, CLAMP, buffer, self.BACKGROUND), 5)
-        self.assertEqual(yirvagul.convert_in_place_plain(self.SHORT, self.LONG, 300, plain, self.BACKGROUND), 5)
-        self.assertEqual((buffer, plain), (self.long(numbers), self.long(numbers)))
+        self.assertEqual(buffer, self.long(numbers))
 
     def test_shrinking(self):
         log, wanted = self.long(self.numbers()), self.short(self.numbers()) + bytes(600)
@@ -117,19 +113,58 @@ class Blocks(unittest.TestCase):
         self.assertEqual((buffer, plain), (wanted, wanted))
 
     def test_stop(self):
-        for record in (0, 7, 8, 255, 256, 291, 292, 298):
+        for record in (0, 7, 8, 255, 256, 291, 292, 298, 299):
             log = self.short(self.numbers(record, 299))
             out, buffer = bytearray(self.BACKGROUND), bytearray(log + b"\x77" * 600)
-            for convert, lent in (
-                (yirvagul.convert_copying, (log, out)),
-                (yirvagul.convert_in_place, (buffer, self.BACKGROUND)),
+            for convert, given in (
+                (yirvagul.convert_copying, (STOP, log, out)),
+                (yirvagul.convert_copying_plain, (log, out)),
+                (yirvagul.convert_in_place, (STOP, buffer, self.BACKGROUND)),
+                (yirvagul.convert_in_place_plain, (buffer, self.BACKGROUND)),
             ):
                 with self.assertRaises(Refusal) as caught:
-                    convert(self.SHORT, self.LONG, 300, STOP, *lent)
+                    convert(self.SHORT, self.LONG, 300, *given)
                 refusal = caught.exception
                 self.assertEqual((refusal.number, refusal.record, refusal.at), (Number.STOP, record, 3))
                 self.assertEqual(refusal.given, record * 7 % 1024 + 2048)
             self.assertEqual((out, buffer), (self.BACKGROUND, log + b"\x77" * 600))
+
+
+class Plain(unittest.TestCase):
+    """The forms that name no handling: they stop."""
+
+    # a pressure and a temperature; the same in a byte each, the temperature first
+    SENT = PAIR + SIGNED + "comp\t3\nmember\tboost\t0\t0\nmember\toil\t2\t1\n"
+    READ = BYTE + "comp\t2\nmember\toil\t0\t0\nmember\tboost\t1\t0\n"
+
+    def test_what_fits(self):
+        log = bytes((0, 9, 2, 0, 7, 1, 0, 255, 127))
+        out, buffer = bytearray(b"\x77" * 7), bytearray(log)
+        self.assertEqual(yirvagul.convert_copying_plain(self.SENT, self.READ, 3, log, out), 0)
+        self.assertEqual(out, bytes((2, 9, 1, 7, 127, 255, 0x77)))
+        self.assertEqual(yirvagul.convert_in_place_plain(self.SENT, self.READ, 3, buffer, bytes(6)), 0)
+        self.assertEqual(buffer, bytes((2, 9, 1, 7, 127, 255, 0, 0, 0)))
+
+    def test_what_does_not(self):
+        """In the first record and in the last; the report clamps the same records."""
+        for log, stop, rows, exceptions in (
+            # -5 and 300, of which the first byte is named
+            ((1, 44, 251, 0, 7, 1, 0, 255, 127), (0, 0, Kind.BELOW, -5), ((0, "oil", 0, 127, 128, 3), (1, "boost", 7, 255, 517, 3)), 2),
+            ((0, 9, 2, 0, 7, 1, 1, 0, 127), (2, 1, Kind.ABOVE, 256), ((0, "oil", 1, 127, 130, 3), (1, "boost", 7, 255, 271, 3)), 1),
+        ):
+            out, buffer, background = bytearray(b"\x77" * 7), bytearray(log), bytearray(b"\x55" * 6)
+            for convert, lent in (
+                (yirvagul.convert_copying_plain, (bytes(log), out)),
+                (yirvagul.convert_in_place_plain, (buffer, background)),
+            ):
+                with self.assertRaises(Refusal) as caught:
+                    convert(self.SENT, self.READ, 3, *lent)
+                refusal = caught.exception
+                self.assertEqual(refusal.number, Number.STOP)
+                self.assertEqual((refusal.record, refusal.at, refusal.kind, refusal.given), stop)
+            self.assertEqual((out, buffer, background), (b"\x77" * 7, bytes(log), b"\x55" * 6))
+            summary = Report(self.READ).add(self.SENT, bytes(log))
+            self.assertEqual((summary.records, summary.exceptions, summary.rows), (3, exceptions, rows))
 
 
 class Counts(unittest.TestCase):

@@ -17,7 +17,7 @@ import zlib
 
 import yirvagul
 from common import BITS, BYTE, CUSTOMER, PAIR, REAL, RIG, SIGNED, random_sheet
-from yirvagul import Number, Refusal, Report, Row, Summary, sheets
+from yirvagul import Handling, Number, Refusal, Report, Row, Summary, sheets
 
 REPOSITORY = pathlib.Path(__file__).resolve().parents[3]
 LOG = (REPOSITORY / "examples/rig.log").read_bytes()
@@ -118,8 +118,8 @@ class Results(unittest.TestCase):
                 for record in records:
                     # a leaf is matched where the conversion does not leave it to the background
                     out, other = bytearray(yirvagul.record_size(reader)), bytearray(b"\xff" * yirvagul.record_size(reader))
-                    exceptions += yirvagul.convert_copying_plain(source, reader, 1, record, out)
-                    yirvagul.convert_copying_plain(source, reader, 1, record, other)
+                    exceptions += yirvagul.convert_copying(source, reader, 1, Handling.CLAMP, record, out)
+                    yirvagul.convert_copying(source, reader, 1, Handling.CLAMP, record, other)
                     for at in wanted:
                         wanted[at].append(number(expected, out, at))
                         matched[at] = number(expected, out, at) == number(expected, other, at)

@@ -15,7 +15,10 @@ LIST_BYTES = 14 + 4096 * 12
 
 
 class Handling(enum.IntEnum):
-    """What to do with numbers that do not fit: write the nearest that fits and count it, or refuse before anything is written."""
+    """What to do with numbers that do not fit: write the nearest that fits and count it, or refuse before anything is written.
+
+    The plain forms, which name no handling, refuse.
+    """
 
     CLAMP = 0
     STOP = 1
@@ -40,7 +43,11 @@ def convert_copying(
 def convert_copying_plain(
     source_sheet: Sheet, destination_sheet: Sheet, count: int, source: ReadableBuffer, destination: WriteableBuffer
 ) -> int:
-    """The same without handling: it clamps."""
+    """The same with `Handling.STOP`.
+
+    At a STOP nothing was written, and the refusal names the record, the byte, the kind and the number: correct the sheet or the log there, or name
+    `Handling.CLAMP` in `convert_copying`.
+    """
     with Held("source", source) as read, Held("destination", destination, written=True) as written:
         return _convert(_library.convert_copying_plain, source_sheet, destination_sheet, count, read, written)
 
@@ -65,7 +72,11 @@ def convert_in_place(
 def convert_in_place_plain(
     source_sheet: Sheet, destination_sheet: Sheet, count: int, buffer: WriteableBuffer, background: ReadableBuffer
 ) -> int:
-    """The same without handling: it clamps."""
+    """The same with `Handling.STOP`.
+
+    At a STOP nothing was written, and the refusal names the record, the byte, the kind and the number: correct the sheet or the log there, or name
+    `Handling.CLAMP` in `convert_in_place`.
+    """
     with Held("buffer", buffer, written=True) as written, Held("background", background) as read:
         return _convert(_library.convert_in_place_plain, source_sheet, destination_sheet, count, written, read)
 

@@ -245,7 +245,7 @@ pub enum Error {
         /// The first one that is.
         short: Option<Short>,
     },
-    /// Handling is stop, and a number does not fit.
+    /// Handling is stop, as in every plain form, and a number does not fit.
     #[non_exhaustive]
     Stop {
         /// The first record that has one, from 0; of a log, counted from the log's start.

@@ -76,7 +76,7 @@ pub const SMALL_STACK_BYTES: usize = 49_152;
 pub enum Handling {
     /// Write the nearest that fits, and count it.
     Clamp,
-    /// Refuse before anything is written.
+    /// Refuse before anything is written. The plain forms, which name no handling, do this.
     Stop,
 }
 
@@ -135,7 +135,8 @@ impl Converter {
         explain::outcome(answer, &call, table)
     }
 
-    /// The same with [`Handling::Clamp`].
+    /// The same with [`Handling::Stop`]. At an [`Error::Stop`] nothing was written, and it names the record, the byte, the kind and the number: correct the
+    /// sheet or the log there, or name [`Handling::Clamp`] in [`Converter::convert_copying`].
     pub fn convert_copying_plain(
         &mut self,
         source_sheet: &[u8],
@@ -170,7 +171,8 @@ impl Converter {
         explain::outcome(answer, &call, table)
     }
 
-    /// The same with [`Handling::Clamp`].
+    /// The same with [`Handling::Stop`]. At an [`Error::Stop`] nothing was written, and it names the record, the byte, the kind and the number: correct the
+    /// sheet or the log there, or name [`Handling::Clamp`] in [`Converter::convert_in_place`].
     pub fn convert_in_place_plain(
         &mut self,
         source_sheet: &[u8],
@@ -273,6 +275,20 @@ pub fn convert_copying(
 }
 
 /// [`Converter::convert_copying_plain`] with a table of its own.
+///
+/// ```
+/// use yirvagul::{convert_copying_plain, Error};
+///
+/// let pair = b"int\t2\tBE\t0\t16\tzero\tzero\tunsigned\n";
+/// let byte = b"int\t1\tLE\t0\t8\tzero\tzero\tunsigned\n";
+/// let mut out = [0; 2];
+/// assert_eq!(convert_copying_plain(pair, byte, 2, &[0, 5, 0, 255], &mut out), Ok(0));
+/// assert_eq!(out, [5, 255]);
+/// // 256 does not fit a byte
+/// let refused = convert_copying_plain(pair, byte, 2, &[0, 7, 1, 0], &mut out);
+/// assert!(matches!(refused, Err(Error::Stop { record: 1, .. })));
+/// assert_eq!(out, [5, 255]);
+/// ```
 pub fn convert_copying_plain(
     source_sheet: &[u8],
     destination_sheet: &[u8],

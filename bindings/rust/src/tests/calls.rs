@@ -22,10 +22,71 @@ fn copying_clamps_and_counts() {
     );
     assert_eq!(out, [0x7f, 0x05, 0x77]);
     assert_eq!(
-        convert_copying_plain(SIGNED, PAIR, 1, b"\xff", &mut out),
+        convert_copying(SIGNED, PAIR, 1, Handling::Clamp, b"\xff", &mut out),
         Ok(1)
     );
     assert_eq!(out, [0, 0, 0x77]);
+}
+
+/// A pressure and a temperature.
+const SENT: &[u8] = b"int\t2\tBE\t0\t16\tzero\tzero\tunsigned\nint\t1\tLE\t0\t8\tzero\tzero\tsigned\ncomp\t3\nmember\tboost\t0\t0\nmember\toil\t2\t1\n";
+
+/// The same in a byte each, the temperature first.
+const READ: &[u8] =
+    b"int\t1\tLE\t0\t8\tzero\tzero\tunsigned\ncomp\t2\nmember\toil\t0\t0\nmember\tboost\t1\t0\n";
+
+#[test]
+fn plain_forms_convert_what_fits() {
+    let log = [0, 9, 2, 0, 7, 1, 0, 255, 127];
+    let mut out = [0x77; 7];
+    assert_eq!(convert_copying_plain(SENT, READ, 3, &log, &mut out), Ok(0));
+    assert_eq!(out, [2, 9, 1, 7, 127, 255, 0x77]);
+    let mut buffer = log;
+    let done = convert_in_place_plain(SENT, READ, 3, &mut buffer, &[0; 6]);
+    assert_eq!(done, Ok(0));
+    assert_eq!(buffer, [2, 9, 1, 7, 127, 255, 0, 0, 0]);
+}
+
+#[test]
+fn plain_forms_stop_and_the_report_clamps() {
+    let check = |log: [u8; 9], stop: (u64, u32, Kind, i128), rows: &str, exceptions: u64| {
+        let (mut out, mut buffer, background) = ([0x77; 7], log, [0x55; 6]);
+        for refused in [
+            convert_copying_plain(SENT, READ, 3, &log, &mut out),
+            convert_in_place_plain(SENT, READ, 3, &mut buffer, &background),
+        ] {
+            let Err(Error::Stop {
+                record,
+                at,
+                kind,
+                given: Given::Whole(number),
+                ..
+            }) = refused
+            else {
+                panic!("{refused:?}");
+            };
+            assert_eq!((record, at, kind, number), stop);
+        }
+        assert_eq!((out, buffer), ([0x77; 7], log));
+        let summary = Report::new(READ).unwrap().add(SENT, &log).unwrap();
+        let head = "at\tlowest\thighest\tsum\tsamples\n";
+        assert_eq!(summary.text, format!("{head}{rows}"));
+        assert_eq!((summary.records, summary.exceptions), (3, exceptions));
+    };
+    // -5 and 300 in the first record, of which the first byte is named
+    check(
+        [1, 44, 251, 0, 7, 1, 0, 255, 127],
+        (0, 0, Kind::Below, -5),
+        "0\t0\t127\t128\t3\n1\t7\t255\t517\t3\n",
+        2,
+    );
+    // 256 in the last
+    check(
+        [0, 9, 2, 0, 7, 1, 1, 0, 127],
+        (2, 1, Kind::Above, 256),
+        "0\t1\t127\t130\t3\n1\t7\t255\t271\t3\n",
+        1,
+    );
 }
 
 #[test]
@@ -236,7 +297,9 @@ fn kinds_of_reals() {
 fn reals_are_doubles() {
     let reals = |from: &[u8], source: &[u8], count: usize| {
         let mut out = vec![0; 8 * count];
-        let exceptions = convert_copying_plain(from, REAL, count as u64, source, &mut out).unwrap();
+        let clamp = Handling::Clamp;
+        let exceptions =
+            convert_copying(from, REAL, count as u64, clamp, source, &mut out).unwrap();
         let real = |bytes: &[u8]| f64::from_be_bytes(bytes.try_into().unwrap());
         let reals: Vec<f64> = out.chunks(8).map(real).collect();
         (reals, exceptions)
@@ -249,7 +312,7 @@ fn reals_are_doubles() {
         .flat_map(f64::to_be_bytes)
         .collect();
     assert_eq!(
-        convert_copying_plain(REAL, BYTE, 4, &source, &mut out),
+        convert_copying(REAL, BYTE, 4, Handling::Clamp, &source, &mut out),
         Ok(4)
     );
     assert_eq!(out, [255, 0, 0, 0]);
