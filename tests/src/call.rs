@@ -55,7 +55,7 @@ pub struct After {
     pub table: Vec<u32>,
 }
 
-/// What all four forms are given. A plain form has no handling.
+/// What all four forms are given. A plain form names no handling.
 #[derive(Clone, Copy, Debug)]
 pub struct Call<'a> {
     pub source_sheet: &'a [u8],
@@ -63,6 +63,18 @@ pub struct Call<'a> {
     pub count: u64,
     pub handling: Option<u32>,
     pub table: &'a [u32],
+}
+
+/// Handling 0 writes the results of exceptions, handling 1 refuses.
+pub const CLAMP: u32 = 0;
+pub const STOP: u32 = 1;
+
+impl Call<'_> {
+    /// Document 02, 2026-10: "From now on the plain forms, in place and copying,
+    /// handle as 1."
+    fn stops(&self) -> bool {
+        self.handling.unwrap_or(STOP) == STOP
+    }
 }
 
 /// The number that a destination leaf was given: a matched number, or a real's
@@ -153,8 +165,8 @@ fn after(call: Call, result: Result<Answer, Answer>, written: Vec<u8>) -> After 
 /// Checks 1 to 6, and 12.
 fn checked(call: &Call) -> Result<(Rc<Datatype>, Rc<Datatype>), Answer> {
     if let Some(handling) = call.handling
-        && handling != 0
-        && handling != 1
+        && handling != CLAMP
+        && handling != STOP
     {
         return Err(Answer::refused(1));
     }
@@ -241,8 +253,8 @@ fn convert(
     let first = raised
         .iter()
         .min_by_key(|raised| (raised.record, raised.at));
-    match (call.handling, first) {
-        (Some(1), Some(first)) => Err(stopped(first)),
+    match first {
+        Some(first) if call.stops() => Err(stopped(first)),
         _ => Ok((converted, raised.len() as u64)),
     }
 }

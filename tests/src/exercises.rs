@@ -41,16 +41,21 @@ pub fn expect(
     assert_eq!(clamped.answer, Answer::done(count));
     assert_eq!(clamped.written, result);
     assert_eq!(clamped.table, [0; 8192]);
-    let plain = copying(given(from, to, 1, None), &source, &background);
-    assert_eq!(plain, clamped);
     let mut buffer = source.clone();
     buffer.resize(source.len().max(result.len()), 0x77);
-    let moved = in_place(given(from, to, 1, None), &buffer, &background);
+    let moved = in_place(given(from, to, 1, Some(0)), &buffer, &background);
     assert_eq!(moved.answer, clamped.answer);
     assert_eq!(moved.written[..result.len()], result);
     let stopped = copying(given(from, to, 1, Some(1)), &source, &background);
+    let plain = copying(given(from, to, 1, None), &source, &background);
+    assert_eq!(plain, stopped);
+    let left = in_place(given(from, to, 1, None), &buffer, &background);
+    assert_eq!(left.answer, stopped.answer);
     match kind {
-        None => assert_eq!(stopped, clamped),
+        None => {
+            assert_eq!(stopped, clamped);
+            assert_eq!(left, moved);
+        }
         Some(kind) => {
             // The number given has tests of its own.
             let stop = Answer {
@@ -60,6 +65,7 @@ pub fn expect(
                 ..Answer::refused(8)
             };
             assert_eq!((stopped.answer, stopped.written), (stop, background));
+            assert_eq!(left.written, buffer);
         }
     }
 }
@@ -204,6 +210,30 @@ fn a_late_stop_leaves_every_record() {
     let after = in_place(call, &source, &[0, 0]);
     assert_eq!((after.answer, after.written), (stop, source));
     assert_eq!(after.table, [0; 8192]);
+}
+
+#[test]
+fn a_plain_form_stops_and_leaves_both_records() {
+    for (source, record) in [("80 01", 0), ("01 80", 1)] {
+        let (source, destination) = (hex(source), hex("33 44"));
+        let stop = Answer {
+            record,
+            kind: 1,
+            magnitude: 128,
+            ..Answer::refused(8)
+        };
+        let plain = given(BYTE, SIGNED_BYTE, 2, None);
+        let after = copying(plain, &source, &destination);
+        assert_eq!((after.answer, &after.written), (stop, &destination));
+        assert_eq!(after.table, [0; 8192]);
+        let after = in_place(plain, &source, &[0, 0]);
+        assert_eq!((after.answer, &after.written), (stop, &source));
+        // Who wants the clamp names it.
+        let named = given(BYTE, SIGNED_BYTE, 2, Some(0));
+        let after = in_place(named, &source, &[0, 0]);
+        let clamped = source.iter().map(|byte| byte.min(&0x7F)).copied().collect();
+        assert_eq!((after.answer, after.written), (Answer::done(1), clamped));
+    }
 }
 
 pub const LISTED: &str = "int\t2\tBE\t4\t12\tzero\tzero\tunsigned\n\

@@ -1,7 +1,7 @@
 //! The report of 2026-01 on seasons that are worked out by hand.
 
-use crate::call::{Answer, Call};
-use crate::exercises::{BYTE, LISTED, SIGNED_BYTE, TWO_BE};
+use crate::call::{Answer, Call, in_place};
+use crate::exercises::{BYTE, LISTED, SIGNED_BYTE, TWO_BE, given};
 use crate::reals::REAL_BE;
 use crate::report::{After, MOST_HELD, report};
 
@@ -88,6 +88,16 @@ fn the_log_is_converted_in_place() {
     let after = season.call(TWO_BE, 2, &[0, 5, 1, 0, 0x77]);
     assert_eq!(after.log, [5, 255, 0, 0, 0x77]);
     assert_eq!(after.memory, [2, 1, 5, 255, 260, 2]);
+}
+
+#[test]
+fn the_report_clamps_where_a_plain_form_stops() {
+    let log = [0, 5, 1, 0];
+    let after = Season::new(BYTE, 1).call(TWO_BE, 2, &log);
+    assert_eq!((&after.log[..], after.memory[1]), (&[5, 255, 0, 0][..], 1));
+    let plain = in_place(given(TWO_BE, BYTE, 2, None), &log, &[0xA5; 2]);
+    assert_eq!((plain.answer.number, plain.answer.record), (8, 1));
+    assert_eq!(plain.written, log);
 }
 
 #[test]

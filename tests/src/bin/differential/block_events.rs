@@ -16,7 +16,7 @@ use independent::paths::Match;
 const WRITTEN: u64 = 64;
 
 /// What every form must have met.
-const EACH: [&str; 17] = [
+const EACH: [&str; 15] = [
     "one block",
     "one block and one more",
     "one block less one",
@@ -26,9 +26,7 @@ const EACH: [&str; 17] = [
     "one block of elements and one more",
     "one block of elements less one",
     "several of elements and a rest",
-    "an exception past the first",
     "a kept pad",
-    "a number of 64 bits that is clamped",
     "an array that fills the record",
     "an array of compounds",
     "members that repeat evenly",
@@ -36,8 +34,16 @@ const EACH: [&str; 17] = [
     "a real among ints",
 ];
 
-/// What the forms with a handling must have met.
-const STOPPING: [&str; 9] = [
+/// What the forms that can clamp must have met.
+const CLAMPING: [&str; 2] = [
+    "an exception past the first",
+    "a number of 64 bits that is clamped",
+];
+
+/// What every form must have met of STOP.
+const STOPPING: [&str; 11] = [
+    "STOP at the first record of all",
+    "STOP at the last record of all",
     "STOP in the first",
     "STOP in a later one",
     "STOP at the first record of one",
@@ -95,11 +101,13 @@ pub fn needed() -> Vec<String> {
         add(&EACH);
         add(&enums);
         add(&block_piece_events::EACH);
+        add(&STOPPING);
+        add(&stops);
+        add(&block_symbol_events::STOPPING);
+        add(&block_piece_events::STOPPING);
         if !form.is_plain() {
-            add(&STOPPING);
-            add(&stops);
-            add(&block_symbol_events::STOPPING);
-            add(&block_piece_events::STOPPING);
+            add(&CLAMPING);
+            add(&block_symbol_events::CLAMPING);
         }
         if !form.is_copying() {
             add(&IN_PLACE);
@@ -199,7 +207,7 @@ fn note_done(
         let rest = (1..FEWEST).contains(&(units % block));
         saw(units > 2 * block && rest, "several of elements and a rest");
     }
-    if run.handling == 1 && !run.form.is_plain() {
+    if run.stops() {
         let several = run.count >= 2 * record.searched();
         saw(several && !matches.is_empty(), "none of several stops");
     }
@@ -311,6 +319,8 @@ fn note_stop(
         _ => units,
     };
     if count >= FEWEST {
+        saw(record == 0, "STOP at the first record of all");
+        saw(record + 1 == count, "STOP at the last record of all");
         saw(record < block, "STOP in the first");
         saw(record >= block, "STOP in a later one");
         let first = record >= block && record % block == 0 && record < rest(count, block);

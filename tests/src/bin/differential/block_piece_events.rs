@@ -29,7 +29,7 @@ pub const EACH: [&str; 18] = [
     "parts but for a pad in the destination",
 ];
 
-/// What the forms with a handling must have met.
+/// What every form must have met of STOP.
 pub const STOPPING: [&str; 4] = [
     "a record that stays as it is, and nothing stops",
     "STOP beside a piece that stays",
@@ -151,7 +151,7 @@ fn note_staying(
             .iter()
             .all(|pair| std::ptr::eq(pair.to.datatype, ordered[0].to.datatype));
     saw(whole && elements, "an array that stays as it is");
-    if run.handling == 1 && !run.form.is_plain() {
+    if run.stops() {
         saw(whole, "a record that stays as it is, and nothing stops");
     }
     let end = |pair: &Match| pair.to.at + pair.to.datatype.size();

@@ -9,14 +9,12 @@ use independent::number;
 use independent::paths::Match;
 
 /// What every form must have met.
-const EACH: [&str; 18] = [
+const EACH: [&str; 15] = [
     "enums that span just 512",
     "enums that span 513",
     "2 symbols far apart",
     "40 symbols far apart",
     "enums far apart, with offset and pads",
-    "a number without a symbol past the first, close",
-    "a number without a symbol past the first, far apart",
     "an enum into pads",
     "an enum into kept pads",
     "2 pairs of enums",
@@ -26,11 +24,17 @@ const EACH: [&str; 18] = [
     "6 pairs of enums",
     "a pair of enums in several members",
     "an array of enums that fills the record",
-    "a source enum without values",
     "pairs that lie close and pairs far apart",
 ];
 
-/// What the forms with a handling must have met.
+/// What the forms that can clamp must have met.
+pub const CLAMPING: [&str; 3] = [
+    "a number without a symbol past the first, close",
+    "a number without a symbol past the first, far apart",
+    "a source enum without values",
+];
+
+/// What every form must have met of STOP.
 pub const STOPPING: [&str; 5] = [
     "STOP without a symbol in a later one, close",
     "STOP without a symbol in a later one, far apart",

@@ -124,15 +124,16 @@ fn conversion(
     tally: &mut Tally,
     (from, to): (Model, Model),
 ) -> Result<(), String> {
-    // Mostly a form that can stop.
-    let form = match random.percent(40) {
-        true => *random.pick(&[Form::Copying, Form::InPlace]),
-        false => *random.pick(&FORMS),
-    };
+    let form = *random.pick(&FORMS);
     let handling = u32::from(random.percent(55));
     let made = |random: &mut Random, from: &Datatype, to: &Datatype, matches: &[Match]| {
         let count = count(random, form, from, to, matches.len());
-        (count, log(random, from, to, count, matches))
+        // A plain form is done only where nothing raises.
+        let bytes = match form.is_plain() && random.percent(40) {
+            true => fitting_log(random, from, count, matches),
+            false => log(random, from, to, count, matches),
+        };
+        (count, bytes)
     };
     run_log(random, tally, (form, handling), (from, to), made)
 }
@@ -182,7 +183,7 @@ pub const STOPS: [u64; 5] = [1, 7, 8, 9, 255];
 /// A run that stops within a block of 256.
 pub fn stop_case(random: &mut Random, tally: &mut Tally) -> Result<(), String> {
     let sheets = paired(random, 3, block_sheets::numbers);
-    let form = *random.pick(&[Form::Copying, Form::InPlace]);
+    let form = *random.pick(&FORMS);
     let made = |random: &mut Random, from: &Datatype, to: &Datatype, matches: &[Match]| {
         let count = random.between(256, 600);
         let mut bytes = fitting_log(random, from, count, matches);
@@ -230,15 +231,9 @@ fn report(
     reader: Vec<u8>,
 ) -> Result<(), String> {
     let made = with_types(&from, &reader, |source, destination, matches| {
-        let count = count(
-            random,
-            Form::InPlacePlain,
-            source,
-            destination,
-            matches.len(),
-        );
+        let count = count(random, Form::InPlace, source, destination, matches.len());
         let unit = Unit::record(source, destination);
-        let several = count > 2 * unit.block(Form::InPlacePlain);
+        let several = count > 2 * unit.block(Form::InPlace);
         (
             count,
             log(random, source, destination, count, matches),

@@ -29,6 +29,7 @@ mod lines;
 mod model;
 mod others;
 mod patterns;
+mod plain;
 mod properties;
 mod random;
 mod reaches;
@@ -130,7 +131,7 @@ fn run_cases(options: &Options) -> bool {
 }
 
 fn run_case(random: &mut Random, tally: &mut Tally) -> Result<(), String> {
-    let choice = random.below(1746);
+    let choice = random.below(1766);
     let (kind, result) = match choice {
         0 => (
             "conversion of 65,536 records",
@@ -190,7 +191,8 @@ fn run_case(random: &mut Random, tally: &mut Tally) -> Result<(), String> {
         1670..=1697 => ("equal parts in blocks", blocks::part_case(random, tally)),
         1698..=1705 => ("STOP in blocks", blocks::stop_case(random, tally)),
         1706..=1721 => ("report in blocks", blocks::report_case(random, tally)),
-        _ => ("many rows", crowded::case(random, tally)),
+        1722..=1745 => ("many rows", crowded::case(random, tally)),
+        _ => ("plain forms and the report", plain::case(random, tally)),
     };
     tally.saw(&format!("case: {kind}"));
     result.map_err(|fault| format!("({kind}) {fault}"))

@@ -7,7 +7,7 @@ use crate::derive::derive;
 use crate::generate;
 use crate::random::Random;
 use crate::records::{put, records};
-use crate::run::{self, FORMS, Form, Run, Seen, tell};
+use crate::run::{self, FORMS, Form, NAMING, Run, Seen, tell};
 use crate::tally::Tally;
 use independent::call::Call;
 use independent::datatype::{Datatype, Order};
@@ -388,7 +388,7 @@ impl Setting<'_> {
         at: (u64, u64, u64),
     ) -> Result<(), String> {
         let sources = self.two(random, pair, at);
-        let form = *random.pick(&FORMS);
+        let form = *random.pick(&NAMING);
         let converted = (self.to.size() * at.1) as usize;
         let background = random.bytes(converted);
         let (seen, again, run) = self.run_two(random, (form, 0), &sources, &background)?;
@@ -440,7 +440,7 @@ impl Setting<'_> {
     ) -> Result<(), String> {
         let mut sources = self.two(random, pair, at);
         let background = random.bytes((self.to.size() * at.1) as usize);
-        let form = *random.pick(&FORMS);
+        let form = *random.pick(&NAMING);
         let (seen, again, run) = self.run_two(random, (form, 0), &sources, &background)?;
         let same = (seen.answer, &seen.written) == (again.answer, &again.written);
         check(same, "an enum without a value shows", &run)?;
@@ -456,7 +456,7 @@ impl Setting<'_> {
                 }
             }
         }
-        let form = *random.pick(&[Form::Copying, Form::InPlace]);
+        let form = *random.pick(&FORMS);
         let (seen, again, run) = self.run_two(random, (form, 1), &sources, &background)?;
         let are_stopped = seen.answer[0] == 8 && again.answer[0] == 8;
         check(are_stopped, "an enum without a value raises nothing", &run)?;

@@ -3,7 +3,7 @@
 
 use crate::capi;
 use crate::random::Random;
-use independent::call::{self, After, Answer, Call};
+use independent::call::{self, After, Answer, Call, STOP};
 
 #[derive(Clone, Copy, Debug, PartialEq, Eq)]
 pub enum Form {
@@ -19,6 +19,9 @@ pub const FORMS: [Form; 4] = [
     Form::InPlace,
     Form::InPlacePlain,
 ];
+
+/// The forms that name a handling.
+pub const NAMING: [Form; 2] = [Form::Copying, Form::InPlace];
 
 impl Form {
     pub fn is_copying(self) -> bool {
@@ -51,6 +54,13 @@ pub struct Run {
     pub first: Vec<u8>,
     pub second: Vec<u8>,
     pub table: Vec<u32>,
+}
+
+impl Run {
+    /// Whether the call says that an exception stops it.
+    pub fn stops(&self) -> bool {
+        self.form.is_plain() || self.handling == STOP
+    }
 }
 
 /// What a call leaves.

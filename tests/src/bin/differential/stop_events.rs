@@ -1,7 +1,8 @@
 //! Notes which numbers have stopped a run.
 
+use crate::blocks::FEWEST;
 use crate::convert::with_types;
-use crate::run::Run;
+use crate::run::{FORMS, Form, Run};
 use crate::tally::Tally;
 use independent::call::part;
 use independent::datatype::{Atomic, Datatype, Value};
@@ -48,8 +49,36 @@ pub const NEEDED: [&str; 32] = [
     "STOP by the first of several records",
 ];
 
+/// Where each form must have stopped, beside what blocks ask for.
+const PLACES: [&str; 3] = [
+    "of one record",
+    "at the first of a few records",
+    "at the last of a few records",
+];
+
+/// What each form must have met.
+pub fn needed() -> Vec<String> {
+    let of_form = |form: Form| PLACES.iter().map(move |place| stopped(form, place));
+    FORMS.into_iter().flat_map(of_form).collect()
+}
+
+fn stopped(form: Form, place: &str) -> String {
+    format!("STOP, {}: {place}", form.name())
+}
+
+fn note_place(tally: &mut Tally, run: &Run, record: u64) {
+    let place = match run.count {
+        1 => PLACES[0],
+        2..FEWEST if record == 0 => PLACES[1],
+        2..FEWEST if record + 1 == run.count => PLACES[2],
+        _ => return,
+    };
+    tally.saw(&stopped(run.form, place));
+}
+
 /// Notes a STOP in a record, by the leaf at a byte of the destination.
 pub fn note(tally: &mut Tally, run: &Run, record: u64, at: u64) {
+    note_place(tally, run, record);
     let sheets = (&run.source_sheet, &run.destination_sheet);
     with_types(sheets.0, sheets.1, |from, _, matches| {
         // What the call was given stands in `run`, in place too.

@@ -1,11 +1,11 @@
-//! Cases in which a number does not fit and handling is stop.
+//! Cases in which a number does not fit, and the call stops.
 
 use crate::convert::{self, with_types};
 use crate::generate;
 use crate::patterns::{beside, near_tie, pattern};
 use crate::random::Random;
 use crate::records::{put, records};
-use crate::run::{Form, Run};
+use crate::run::{FORMS, Run};
 use crate::tally::Tally;
 use independent::datatype::Datatype;
 use independent::number;
@@ -19,7 +19,7 @@ pub fn case(random: &mut Random, tally: &mut Tally) -> Result<(), String> {
     let (from, to) = (from.text(), to.text());
     let made = with_types(&from, &to, |source, destination, matches| {
         let count = random.between(1, 6);
-        let form = *random.pick(&[Form::Copying, Form::InPlace]);
+        let form = *random.pick(&FORMS);
         let mut first = records(random, source.size(), count, matches);
         for _ in 0..random.between(1, 3) {
             let record = (random.below(count) * source.size()) as usize;

@@ -5,9 +5,10 @@ use crate::block_events;
 use crate::compare_events;
 use crate::crowded;
 use crate::fields;
+use crate::plain;
 use crate::reaches;
 use crate::real_events;
-use crate::run::{FORMS, Form};
+use crate::run::{FORMS, NAMING};
 use crate::stop_events;
 use crate::symbol_events;
 use std::collections::BTreeMap;
@@ -149,11 +150,13 @@ impl Tally {
             &symbol_events::NEEDED,
             &reaches::NEEDED,
             &crowded::NEEDED,
+            &plain::NEEDED,
         ];
         let all = lists.iter().flat_map(|list| list.iter());
         let mut needed: Vec<String> = all.map(|what| what.to_string()).collect();
         needed.extend(answers());
         needed.extend(block_events::needed());
+        needed.extend(stop_events::needed());
         needed.retain(|what| !self.0.contains_key(what));
         needed
     }
@@ -168,10 +171,10 @@ fn answers() -> Vec<String> {
         }
     };
     for form in FORMS {
-        match form {
-            Form::Copying | Form::InPlace => add(form.name(), &[0, 1, 2, 3, 4, 5, 6, 7, 8, 12]),
-            _ => add(form.name(), &[0, 2, 3, 4, 5, 6, 7, 12]),
-        }
+        add(form.name(), &[0, 2, 3, 4, 5, 6, 7, 8, 12]);
+    }
+    for form in NAMING {
+        add(form.name(), &[1]);
     }
     add("report", &[0, 2, 3, 4, 5, 6, 7, 10, 11, 12]);
     add("compare", &[0, 2, 3, 4, 5, 6, 7]);
