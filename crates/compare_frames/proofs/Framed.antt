@@ -20,12 +20,12 @@ module _ {ss ds : List ℕ} {n p q : ℕ} {ws : List ℕ} {i : ℕ} {wd : List �
   pub second-size : d ≡ size (typeAt wd ds k)
   second-size = read-size wd ds k rd
 
-  unfoldable pub two-logs : {plan words : List ℕ} {e : ℕ} → Made ss ws i ds wd k plan e words
+  unfoldable pub two-logs : {plan words : List ℕ} {e : ℕ} → Made ss ws i ds wd (typeAt wd ds k) plan e words
       → TwoLogs (record { count = n; «first_size» = s; «second_size» = d; entries = e }) p q ss ws ds wd plan words
   unfolding job
   two-logs made =
       record {
-        planned = record { job = job (passes .types) made first-size second-size; firstText = refl; secondText = refl };
+        planned = record { job = job (passes .types) (passes .types .destination) made first-size second-size; firstText = refl; secondText = refl };
         few = passes .records .0;
         inFirst = rw first-size (passes .records .1);
         inSecond = rw second-size (passes .records .2);

@@ -1,7 +1,7 @@
 -- What follows at each place where a call answers. Assumes nothing.
 use mathlib.Core.Path.{_≡_, refl, sym, ap, subst, _∙_}
 use mathlib.Core.Bool.{Bool, true, false, not, _&&_, false≢true}
-use mathlib.Core.List.{List}
+use mathlib.Core.List.{List, []}
 use mathlib.Core.Option.{Option, none, some}
 use Prim.Native.Nat.{ℕ, zero, suc, _+_, _-_, _*_, _^_, _≤_, _<_, max}
 use native.Mathlib.Nat.{le-trans, mul-le-mul-left, mul-le-mul-right}
@@ -17,15 +17,17 @@ use Rattle.datatype.specs.Datatype.{Datatype, size}
 use Rattle.datatype.specs.Symbols.{onSome}
 use Rattle.datatype.specs.Paths.{hasPath}
 use Rattle.datatype.specs.SymbolSets.{keepsSymbols}
+use Rattle.datatype.specs.Handling.{handlingAt}
 use Rattle.datatype.specs.WellFormed.{WellFormed}
+use Rattle.datatype.proofs.Stopping.{stopping}
 use Rattle.datatype.proofs.Matches.{size-most}
 use Rattle.sheet.specs.Sheet.{sheetOf}
 use Rattle.sheet.specs.Sheet.Sheet.{ofType, faultyAt}
-use Rattle.records.specs.Record.{reading, kindAt, givenAt, firstRaising}
+use Rattle.records.specs.Record.{reading, kindAt, givenAt, firstRaising, stopKindAt}
 use Rattle.records.specs.Records.{recordAt, readings, exceptions}
 use Rattle.records.specs.Plan.{planOf, Raised, firstBy}
 use Rattle.records.specs.Plan.Raised.{nowhere, at}
-use Rattle.records.proofs.Plans.{plan-first}
+use Rattle.records.proofs.StopPlan.{plan-stops}
 use Rattle.loops.specs.declared.Stop.{Stop}
 use Rattle.loops.specs.declared.Stop.the-variants.{At, Nowhere}
 use Rattle.loops.specs.Stops as stops
@@ -33,8 +35,8 @@ use Rattle.loops.specs.Stops.{stopBy}
 use Rattle.runs.specs.Run.{Form, Checked, handled, target, result, ifDone, hasRoom, stopFrom, recordChecks, typeChecks, sheetChecks}
 use Rattle.runs.specs.Run.Form.{copying, inPlace}
 use Rattle.runs.specs.Run.Checked.{refused, passed}
-use Rattle.conversion.specs.Call.{Leaves}
-use Rattle.runs.proofs.Exceptions.{handled-quiet}
+use Rattle.conversion.specs.Call.{Leaves, Decided}
+use Rattle.runs.proofs.Exceptions.{clamped-handled}
 
 -- ---- a refusal
 
@@ -48,45 +50,70 @@ module _ (form : Form) (n : ℕ) (source background : List ℕ) (S D : Datatype)
   abbrev pub Converted : ℕ → List ℕ → Type 0
   Converted r out = (out ≡ result form S D n source background) × (r ≡ exceptions S D n (readings S D source))
 
-  pub clamps : (h r : ℕ) (out : List ℕ) → h ≡ 0 → Converted r out → Leaves form h n source background (passed S D) (answer.Done r) out
-  clamps h r out e done = rw (e, done .1) (record { answers = refl; leaves = done .0 })
+  -- by what the answer is
+  pub converts : (h r : ℕ) (out : List ℕ) → handled h S D n (readings S D source) ≡ answer.Done (exceptions S D n (readings S D source)) → Converted r out
+      → Leaves form h n source background (passed S D) (answer.Done r) out
+  converts h r out is done =
+      let e : handled h S D n (readings S D source) ≡ answer.Done r = is ∙ ap answer.Done (sym (done .1)) in
+      record { answers = sym e; leaves = done .0 ∙ sym (ap (λ (a : Answer). ifDone a (result form S D n source background) (target form source background)) e) }
 
-  -- the first exception by the plan is the one that STOP names
-  said : Stop → Answer
-  said (At i b kind given) = answer.Stop i b kind given
-  said Nowhere = answer.Done 0
+  pub stops-with : (h : ℕ) {i b kind : ℕ} {given : Given} → handled h S D n (readings S D source) ≡ answer.Stop i b kind given
+      → Leaves form h n source background (passed S D) (answer.Stop i b kind given) (target form source background)
+  stops-with h is =
+      record { answers = sym is; leaves = sym (ap (λ (a : Answer). ifDone a (result form S D n source background) (target form source background)) is) }
 
-  same-stop : (i k : ℕ) → stopFrom S D (readings S D source) i k ≡ said (stopBy (planOf S D) (size S) source i k)
+  -- what the plan to the leaves that obey stop finds first is what STOP names; where it finds nothing, the call is done with this count
+  said : ℕ → Stop → Answer
+  said count (At i b kind given) = answer.Stop i b kind given
+  said count Nowhere = answer.Done count
+
+  same-stop : (h : ℕ) → h ≤ 1 → (count i k : ℕ)
+      → stopFrom h S D (readings S D source) (answer.Done count) i k ≡ said count (stopBy (planOf S (stopping h D)) (size S) source i k)
   unfolding stopFrom stopBy said
-  same-stop i zero = refl
-  same-stop i (suc k) =
-      rw (plan-first S D (recordAt (size S) i source), ← (add-one i)) (go (firstRaising S D (reading S D (recordAt (size S) i source)) 0 (size D)) (same-stop (i + 1) k))
+  same-stop h few count i zero = refl
+  same-stop h few count i (suc k) =
+      rw (plan-stops h few S D (recordAt (size S) i source), ← (add-one i))
+      (go (firstRaising (stopKindAt h S D (reading S D (recordAt (size S) i source))) 0 (size D)) (same-stop h few count (i + 1) k))
     where
-      go : (o : Option ℕ) → stopFrom S D (readings S D source) (i + 1) k ≡ said (stopBy (planOf S D) (size S) source (i + 1) k)
-          → onSome (λ b. answer.Stop i b (kindAt S D (reading S D (recordAt (size S) i source)) b) (givenAt S D (reading S D (recordAt (size S) i source)) b)) (stopFrom S D (readings S D source) (i + 1) k) o
-          ≡ said (stops.orStop i (onSome (λ b. at b (kindAt S D (reading S D (recordAt (size S) i source)) b) (givenAt S D (reading S D (recordAt (size S) i source)) b)) nowhere o) (stopBy (planOf S D) (size S) source (i + 1) k))
+      go : (o : Option ℕ) → stopFrom h S D (readings S D source) (answer.Done count) (i + 1) k ≡ said count (stopBy (planOf S (stopping h D)) (size S) source (i + 1) k)
+          → onSome (λ b. answer.Stop i b (kindAt S D (reading S D (recordAt (size S) i source)) b) (givenAt S D (reading S D (recordAt (size S) i source)) b)) (stopFrom h S D (readings S D source) (answer.Done count) (i + 1) k) o
+          ≡ said count (stops.orStop i (onSome (λ b. at b (kindAt S D (reading S D (recordAt (size S) i source)) b) (givenAt S D (reading S D (recordAt (size S) i source)) b)) nowhere o) (stopBy (planOf S (stopping h D)) (size S) source (i + 1) k))
       go none e = e
       go (some b) e = refl
 
-  module _ (h s : ℕ) (one : h ≡ 1) (sized : s ≡ size S) (stop : Stop) (found : stop ≡ stopBy (planOf S D) s source 0 n) where
-    handled-as : handled h S D n (readings S D source) ≡ said stop
-    handled-as = rw one (same-stop 0 n ∙ rw (← sized) (ap said (sym found)))
+  module _ (h s : ℕ) (few : h ≤ 1) (sized : s ≡ size S) (stop : Stop) (found : stop ≡ stopBy (planOf S (stopping h D)) s source 0 n) where
+    handled-as : handled h S D n (readings S D source) ≡ said (exceptions S D n (readings S D source)) stop
+    handled-as =
+        same-stop h few (exceptions S D n (readings S D source)) 0 n
+        ∙ rw (← sized) (ap (said (exceptions S D n (readings S D source))) (sym found))
 
-    -- what the buffer holds by the answer
-    left-by : Answer → List ℕ
-    left-by a = ifDone a (result form S D n source background) (target form source background)
+    pub stop-said : {i b kind : ℕ} {given : Given} → stop ≡ At i b kind given → handled h S D n (readings S D source) ≡ answer.Stop i b kind given
+    unfolding said
+    stop-said e = handled-as ∙ ap (said (exceptions S D n (readings S D source))) e
 
-    pub stops-at : {i b kind : ℕ} {given : Given} → stop ≡ At i b kind given
-        → Leaves form h n source background (passed S D) (answer.Stop i b kind given) (target form source background)
-    unfolding said left-by
-    stops-at e = record { answers = sym (handled-as ∙ ap said e); leaves = sym (ap left-by (handled-as ∙ ap said e)) }
+    pub none-said : stop ≡ Nowhere → handled h S D n (readings S D source) ≡ answer.Done (exceptions S D n (readings S D source))
+    unfolding said
+    none-said e = handled-as ∙ ap (said (exceptions S D n (readings S D source))) e
 
-    pub goes-on : (r : ℕ) (out : List ℕ) → stop ≡ Nowhere → Converted r out → Leaves form h n source background (passed S D) (answer.Done r) out
-    unfolding said left-by
-    goes-on r out e done =
-        let quiet : handled h S D n (readings S D source) ≡ answer.Done 0 = handled-as ∙ ap said e in
-        let none : exceptions S D n (readings S D source) ≡ 0 = handled-quiet S D h n (readings S D source) quiet in
-        record { answers = ap answer.Done (done .1 ∙ none) ∙ sym quiet; leaves = done .0 ∙ sym (ap left-by quiet) }
+-- a plan without entries finds nothing
+pub none-planned : (s : ℕ) (source : List ℕ) (i k : ℕ) → stopBy [] s source i k ≡ Nowhere
+unfolding stopBy firstBy
+none-planned s source i zero = refl
+none-planned s source i (suc k) = none-planned s source (i + 1) k
+
+-- each leaf obeys the call: nothing stops it, or anything that raises
+pub obeys-decided : (h : ℕ) (S D : Datatype) (n : ℕ) (source : List ℕ) → h ≤ 1 → ((b : ℕ) → handlingAt h D b ≡ h) → Decided h S D n source h
+obeys-decided zero S D n source few all = clamped-handled S D 0 n (readings S D source) (λ b a x y e. all b)
+obeys-decided (suc zero) S D n source few all = all
+obeys-decided (suc (suc h)) S D n source few all = absurd (omega arith)
+
+pub decided-none : (h : ℕ) (S D : Datatype) (n : ℕ) (source : List ℕ) {k : ℕ} → k ≡ 0 → Decided h S D n source k
+    → handled h S D n (readings S D source) ≡ answer.Done (exceptions S D n (readings S D source))
+decided-none h S D n source e d = subst (Decided h S D n source) e d
+
+pub decided-all : (h : ℕ) (S D : Datatype) (n : ℕ) (source : List ℕ) (k : ℕ) → ¬ (k ≡ 0) → Decided h S D n source k → (b : ℕ) → handlingAt h D b ≡ 1
+decided-all h S D n source zero nz d = absurd (nz refl)
+decided-all h S D n source (suc k) nz d = d
 
 -- ---- checks 5 to 7
 

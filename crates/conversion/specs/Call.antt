@@ -2,9 +2,11 @@
 use mathlib.Core.Path.{_≡_}
 use mathlib.Core.Bool.{Bool, true, false}
 use mathlib.Core.List.{List}
-use Prim.Native.Nat.{ℕ, _*_, _≤_}
+use Prim.Native.Nat.{ℕ, zero, suc, _*_, _≤_}
 use Rattle.answer.specs.declared.Answer.{Answer}
+use Rattle.answer.specs.declared.Answer.the-variants as answer
 use Rattle.datatype.specs.Datatype.{Datatype, size}
+use Rattle.datatype.specs.Handling.{handlingAt}
 use Rattle.table.specs.Table.{typeAt}
 use Rattle.records.specs.Records.{readings, exceptions}
 use Rattle.two_sheets.specs.TwoSheets.{first, second, Both}
@@ -13,6 +15,8 @@ use Rattle.runs.specs.Run.Form.{copying, inPlace}
 use Rattle.runs.specs.Run.Checked.{refused, passed}
 use Rattle.conversion.specs.declared.Checks.{Checks}
 use Rattle.conversion.specs.declared.Checks.the-variants.{Refuse, Pass}
+use Rattle.conversion.specs.declared.Looked.{Looked}
+use Rattle.conversion.specs.declared.Looked.the-variants.{Found, Go}
 
 -- ---- behind some checks, of which c says what is left of them
 
@@ -50,6 +54,15 @@ abbrev pub ConvertsIn : Bool → Datatype → Datatype → ℕ → List ℕ → 
 ConvertsIn replaces S D n out other after r =
     (after ≡ result (formOf replaces) S D n (sourceOf replaces out other) (backgroundOf replaces out other))
     × (r ≡ exceptions S D n (readings S D (sourceOf replaces out other)))
+
+-- no exception stops the call (0); or each leaf obeys stop, and what stops the call is what raises first
+abbrev pub Decided : ℕ → Datatype → Datatype → ℕ → List ℕ → ℕ → Type 0
+Decided h S D n source zero = handled h S D n (readings S D source) ≡ answer.Done (exceptions S D n (readings S D source))
+Decided h S D n source (suc k) = (b : ℕ) → handlingAt h D b ≡ 1
+
+abbrev pub LookSays : ℕ → Datatype → Datatype → ℕ → List ℕ → Looked → Type 0
+LookSays h S D n source (Found i b kind given) = handled h S D n (readings S D source) ≡ answer.Stop i b kind given
+LookSays h S D n source (Go scan) = Decided h S D n source scan
 
 -- n records of s and of d bytes, which the buffers, by their lengths, have room for
 abbrev pub HasRecords : Bool → ℕ → ℕ → ℕ → ℕ → ℕ → Type 0

@@ -10,6 +10,7 @@ ghost use Rattle.conversion.specs.Call.{LeavesIn, Passes, sheetsChecked};
 use answer::Answer;
 use checking::check_sheets;
 use conversion::Checks;
+use datatype::STOP;
 use frames::copy_framed;
 use frames::replace_framed;
 use table::HALF;
@@ -100,9 +101,6 @@ fn convert_within(
         ),
     }
 }
-
-// Handling 1: a number that does not fit refuses the call. No other handling is larger.
-const STOP: u32 = 1;
 
 // Copying: the destination's own bytes are the background.
 pub fn convert_copying(

@@ -6,7 +6,7 @@ ghost use Rattle.records.specs.Plan.{planOf};
 ghost use Rattle.plans.specs.PlanWords.{Job};
 ghost use Rattle.loops.specs.Stops.{stopBy};
 ghost use Rattle.runs.specs.Run.Checked.{passed};
-ghost use Rattle.conversion.specs.Call.{sourceOf, backgroundOf, HasRecords, ConvertsIn, LeavesIn};
+ghost use Rattle.conversion.specs.Call.{sourceOf, HasRecords, ConvertsIn, Decided, LeavesIn};
 use answer::Answer;
 use copy_loop::copy_records;
 use in_place_loop::replace_records;
@@ -58,8 +58,8 @@ fn convert_records(
     )
 }
 
-// The first exception of the records.
-fn first_stop(
+// The first exception of the records, by a plan to any destination.
+pub fn first_stop(
     in_place: bool,
     out: &[u8],
     other: &[u8],
@@ -98,10 +98,10 @@ fn first_stop(
     )
 }
 
-// Handling 0 converts; handling 1 looks for the first exception before it writes anything.
+// By the whole plan: scan 0 converts; scan 1 looks for the first exception before it writes anything.
 pub fn convert_planned(
     in_place: bool,
-    handling: u32,
+    scan: u32,
     out: &mut [u8],
     other: &[u8],
     count: usize,
@@ -113,10 +113,10 @@ pub fn convert_planned(
     destination_half: &[u32],
     words: &[u32],
 ) -> Answer
-    requires { ⌜ Job «source_size» «destination_size» (now plan) entries (now «source_half») (now «destination_half») (now words) × HasRecords «in_place» count «source_size» «destination_size» (length (now out)) (length (now other)) × (handling ≤ 1) ⌝ }
-    ensures { λ r. ⌜ ((j : Job «source_size» «destination_size» (now (plan .entry)) entries (now («source_half» .entry)) (now («destination_half» .entry)) (now (words .entry))) → LeavesIn «in_place» handling count (now (out .entry)) (now (other .entry)) (passed (j .source) (j .destination)) r (now (out .exit))) ⌝ }
+    requires { ⌜ Job «source_size» «destination_size» (now plan) entries (now «source_half») (now «destination_half») (now words) × HasRecords «in_place» count «source_size» «destination_size» (length (now out)) (length (now other)) ⌝ }
+    ensures { λ r. ⌜ ((j : Job «source_size» «destination_size» (now (plan .entry)) entries (now («source_half» .entry)) (now («destination_half» .entry)) (now (words .entry))) (h : ℕ) → h ≤ 1 → Decided h (j .source) (j .destination) count (sourceOf «in_place» (now (out .entry)) (now (other .entry))) scan → LeavesIn «in_place» h count (now (out .entry)) (now (other .entry)) (passed (j .source) (j .destination)) r (now (out .exit))) ⌝ }
 {
-    if handling == 0 {
+    if scan == 0 {
         return Answer::Done(convert_records(
             in_place,
             out,

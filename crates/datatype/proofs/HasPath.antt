@@ -69,14 +69,14 @@ mutual
 
   each-said : (ms ss : Members) → pathsTo ss ms ≡ true → Each ss ms
   each-said empty ss e n p o S D j i = not-found j
-  each-said (member x q X ms) ss e n p o S D j i =
+  each-said (member x q X word ms) ss e n p o S D j i =
       let h : (onFound (λ c U. hasPath U X) true (memberNamed x ss) ≡ true) × (pathsTo ss ms ≡ true) =
       and-true (onFound (λ c U. hasPath U X) true (memberNamed x ss)) (pathsTo ss ms) e in
       ⊎-elim
       (λ (f : (n ≡ x) × (found q X ≡ found o D)).
       let first : hasPath S X ≡ true = rw (← (f .0), i) at (h .0) in
       subst (HasPath S) (same-type (f .1)) (path-said X S first))
-      (λ (f : memberNamed n ms ≡ found o D). each-said ms ss (h .1) n p o S D f i) (found-cases n x q o X D ms j)
+      (λ (f : memberNamed n ms ≡ found o D). each-said ms ss (h .1) n p o S D f i) (found-cases n x q o X D word ms j)
 
 said-leaf : {S : Datatype} {y : Leaf} → HasPath S (leaf y) → isLeafLike S y ≡ true
 said-leaf (same-class {l = l} e) = subst (λ (c : Class). sameClass (l .class) c ≡ true) e (same-itself (l .class))
@@ -114,10 +114,10 @@ mutual
 
   said-each : (ms : Members) (w : ℕ) (ss : Members) → WellFormedIn w ms → Each ss ms → pathsTo ss ms ≡ true
   said-each empty w ss g all = refl
-  said-each (member x q X ms) w ss g all =
+  said-each (member x q X word ms) w ss g all =
       both (onFound (λ c U. hasPath U X) true (memberNamed x ss)) (pathsTo ss ms)
-      (on-found x X ss (λ p S i. said-path X S (g .1) (all x p q S X (found-first x q X ms) i)))
-      (said-each ms w ss (g .2) (λ n p o S D j i. all n p o S D (found-later n x q o X D ms (g .0 .name-once) j) i))
+      (on-found x X ss (λ p S i. said-path X S (g .1) (all x p q S X (found-first x q X word ms) i)))
+      (said-each ms w ss (g .2) (λ n p o S D j i. all n p o S D (found-later n x q o X D word ms (g .0 .name-once) j) i))
 
 -- a path runs between well-formed types exactly as the definition computes it
 pub has-path : (S D : Datatype) → WellFormed D → hasPath S D ≡ true ↔ HasPath S D

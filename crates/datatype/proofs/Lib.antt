@@ -3,3 +3,5 @@ pub mod Ways
 pub mod Matches
 pub mod HasPath
 pub mod SymbolSets
+pub mod Handling
+pub mod Stopping

@@ -31,8 +31,8 @@ paths-found : (ss ms : Members) → pathsTo ss ms ≡ true → (n : List ℕ) {p
     → hasPath S T ≡ true
 unfolding memberNamed hasPath
 paths-found ss empty e n i j = not-found j
-paths-found ss (member x q X ms) e n {p} {o} {S} {T} i j =
-    go (paths-found ss ms (and-true (onFound (λ r U. hasPath U X) true (memberNamed x ss)) (pathsTo ss ms) e .1) n i) (found-cases n x q o X T ms j)
+paths-found ss (member x q X word ms) e n {p} {o} {S} {T} i j =
+    go (paths-found ss ms (and-true (onFound (λ r U. hasPath U X) true (memberNamed x ss)) (pathsTo ss ms) e .1) n i) (found-cases n x q o X T word ms j)
   where
     go : (memberNamed n ms ≡ found o T → hasPath S T ≡ true) → ((n ≡ x) × (found q X ≡ found o T)) ⊎ (memberNamed n ms ≡ found o T) → hasPath S T ≡ true
     go next (inl f) =
@@ -44,13 +44,13 @@ found-paths : (ss ms : Members) (w : ℕ) → WellFormedIn w ms
     → ((n : List ℕ) (p o : ℕ) (S T : Datatype) → memberNamed n ss ≡ found p S → memberNamed n ms ≡ found o T → hasPath S T ≡ true) → pathsTo ss ms ≡ true
 unfolding hasPath
 found-paths ss empty w f all = refl
-found-paths ss (member x q X ms) w f all =
+found-paths ss (member x q X word ms) w f all =
     both (onFound (λ r U. hasPath U X) true (memberNamed x ss)) (pathsTo ss ms) (first (memberNamed x ss) refl)
-    (found-paths ss ms w (f .2) (λ n p o S T i j. all n p o S T i (found-later n x q o X T ms (f .0 .name-once) j)))
+    (found-paths ss ms w (f .2) (λ n p o S T i j. all n p o S T i (found-later n x q o X T word ms (f .0 .name-once) j)))
   where
     first : (h : Lookup) → memberNamed x ss ≡ h → onFound (λ r U. hasPath U X) true h ≡ true
     first missing e = refl
-    first (found r U) e = all x r q U X e (found-first x q X ms)
+    first (found r U) e = all x r q U X e (found-first x q X word ms)
 
 class-back : (c d : Class) → sameClass c d ≡ true → sameClass d c ≡ true
 class-back Int Int e = refl
@@ -95,8 +95,8 @@ mutual
   backs : (ms : Members) (w : ℕ) → WellFormedIn w ms → (n : List ℕ) (o : ℕ) (T : Datatype) → memberNamed n ms ≡ found o T → (S : Datatype) → WellFormed S
       → hasPath S T ≡ true → hasPath T S ≡ true
   backs empty w g n o T j S f e = not-found j
-  backs (member x q X ms) w g n o T j S f e =
-      either n x q o X T ms S (λ h. back X S f (g .1) h) (λ i. backs ms w (g .2) n o T i S f e) e (found-cases n x q o X T ms j)
+  backs (member x q X word ms) w g n o T j S f e =
+      either n x q o X T ms S (λ h. back X S f (g .1) h) (λ i. backs ms w (g .2) n o T i S f e) e (found-cases n x q o X T word ms j)
 
 pub way-path : {S D : Datatype} {a b : ℕ} {x y : Leaf} → Way S D a b x y → hasPath S D ≡ true → leafPath x y ≡ true
 unfolding hasPath

@@ -6,6 +6,7 @@ use mathlib.Core.List.{List, [], _∷_, List·Memᴰ}
 use mathlib.Core.List.List·Memᴰ.{List·Memᴰ·head, List·Memᴰ·tail}
 use Prim.Native.Nat.{ℕ, _≤_}
 use Rattle.layout.specs.declared.Layout.{Layout}
+use Rattle.datatype.specs.declared.Word.{Word}
 use Rattle.datatype.specs.Datatype.{Symbol, Leaf, Datatype, Members, elements, same}
 use Rattle.datatype.specs.Datatype.Leaf.{atomic, enumeration, real}
 use Rattle.datatype.specs.Datatype.Datatype.{leaf, compound, array}
@@ -69,8 +70,8 @@ found-keeps : (ss ms : Members) → keepsIn ss ms ≡ true → (n : List ℕ) {p
     → keepsSymbols S T ≡ true
 unfolding memberNamed keepsSymbols
 found-keeps ss empty e n i j = not-found j
-found-keeps ss (member x q X ms) e n {p} {o} {S} {T} i j =
-    go (found-keeps ss ms (and-true (onFound (λ r U. keepsSymbols U X) true (memberNamed x ss)) (keepsIn ss ms) e .1) n i) (found-cases n x q o X T ms j)
+found-keeps ss (member x q X word ms) e n {p} {o} {S} {T} i j =
+    go (found-keeps ss ms (and-true (onFound (λ r U. keepsSymbols U X) true (memberNamed x ss)) (keepsIn ss ms) e .1) n i) (found-cases n x q o X T word ms j)
   where
     go : (memberNamed n ms ≡ found o T → keepsSymbols S T ≡ true) → ((n ≡ x) × (found q X ≡ found o T)) ⊎ (memberNamed n ms ≡ found o T) → keepsSymbols S T ≡ true
     go next (inl f) =
@@ -90,7 +91,7 @@ way-keeps (element {es = es} {ds = ds} {S = S} {T = T} k q h t) e = way-keeps t 
 pub none-found : (ms : Members) → keepsIn empty ms ≡ true
 unfolding memberNamed keepsSymbols
 none-found empty = refl
-none-found (member x o T ms) = none-found ms
+none-found (member x o T word ms) = none-found ms
 
 -- a pair of enums on the same way, of which the second lacks a symbol of the first
 data LostOn (S D : Datatype) : Type 0 where
@@ -116,19 +117,19 @@ array-lost z w es ds S T some base e = go (same es ds) refl e
     go false p f = absurd (false≢true (sym f))
 
 -- the member x, if the source has it
-member-lost : (x : List ℕ) (o : ℕ) (T : Datatype) (ms ss : Members) (z w : ℕ) → ((S : Datatype) → keepsSymbols S T ≡ false → LostOn S T)
-    → onFound (λ p S. keepsSymbols S T) true (memberNamed x ss) ≡ false → LostOn (compound z ss) (compound w (member x o T ms))
-member-lost x o T ms ss z w down e = go (memberNamed x ss) refl e
+member-lost : (x : List ℕ) (o : ℕ) (T : Datatype) {word : Word} (ms ss : Members) (z w : ℕ) → ((S : Datatype) → keepsSymbols S T ≡ false → LostOn S T)
+    → onFound (λ p S. keepsSymbols S T) true (memberNamed x ss) ≡ false → LostOn (compound z ss) (compound w (member x o T word ms))
+member-lost x o T {word} ms ss z w down e = go (memberNamed x ss) refl e
   where
-    at : {p : ℕ} {S : Datatype} → memberNamed x ss ≡ found p S → LostOn S T → LostOn (compound z ss) (compound w (member x o T ms))
-    at r (lost-on t f) = lost-on (inside x r (found-first x o T ms) t) f
+    at : {p : ℕ} {S : Datatype} → memberNamed x ss ≡ found p S → LostOn S T → LostOn (compound z ss) (compound w (member x o T word ms))
+    at r (lost-on t f) = lost-on (inside x r (found-first x o T word ms) t) f
 
-    go : (h : Lookup) → memberNamed x ss ≡ h → onFound (λ p S. keepsSymbols S T) true h ≡ false → LostOn (compound z ss) (compound w (member x o T ms))
+    go : (h : Lookup) → memberNamed x ss ≡ h → onFound (λ p S. keepsSymbols S T) true h ≡ false → LostOn (compound z ss) (compound w (member x o T word ms))
     go missing r f = absurd (false≢true (sym f))
     go (found p S) r f = at r (down S f)
 
-later-lost : (x : List ℕ) (o : ℕ) (T : Datatype) {ms ss : Members} {z w : ℕ} → memberNamed x ms ≡ missing → LostOn (compound z ss) (compound w ms)
-    → LostOn (compound z ss) (compound w (member x o T ms))
+later-lost : (x : List ℕ) (o : ℕ) (T : Datatype) {word : Word} {ms ss : Members} {z w : ℕ} → memberNamed x ms ≡ missing → LostOn (compound z ss) (compound w ms)
+    → LostOn (compound z ss) (compound w (member x o T word ms))
 later-lost x o T once (lost-on t f) = lost-on (later x o T once t) f
 
 mutual
@@ -147,7 +148,7 @@ mutual
 
   lost-in : (ms ss : Members) (z w : ℕ) → WellFormedIn w ms → keepsIn ss ms ≡ false → LostOn (compound z ss) (compound w ms)
   lost-in empty ss z w g e = absurd (false≢true (sym e))
-  lost-in (member x o T ms) ss z w g e =
+  lost-in (member x o T word ms) ss z w g e =
       ⊎-elim (λ (f : onFound (λ p S. keepsSymbols S T) true (memberNamed x ss) ≡ false). member-lost x o T ms ss z w (λ S h. lost-way T S (g .1) h) f)
       (λ (f : keepsIn ss ms ≡ false). later-lost x o T (g .0 .name-once) (lost-in ms ss z w (g .2) f))
       (and-false (onFound (λ p S. keepsSymbols S T) true (memberNamed x ss)) (keepsIn ss ms) e)

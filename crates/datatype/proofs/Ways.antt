@@ -10,6 +10,7 @@ use native.Mathlib.Omega.{arith}
 use lib.Dec.{ltb, eqb}
 use borrow.Author.Tests.{ltb-true, eqb-true, lt-ltb, eq-eqb, ne-eqb}
 use Rattle.layout.specs.Layout.{Valid}
+use Rattle.datatype.specs.declared.Word.{Word}
 use Rattle.datatype.specs.Datatype.{Leaf, layoutOf, leafSize, Datatype, Members, size, elements, same}
 use Rattle.datatype.specs.Datatype.Leaf.{atomic, enumeration, real}
 use Rattle.datatype.specs.Datatype.Datatype.{leaf, compound, array}
@@ -44,24 +45,24 @@ not-found e = let z : _≡_ {A = ℕ} 0 1 = cc in absurd (omega arith)
 -- ---- members by name
 
 -- a member found behind another is found, for the names differ
-pub found-later : (n x : List ℕ) (o p : ℕ) (T U : Datatype) (ms : Members) → memberNamed x ms ≡ missing → memberNamed n ms ≡ found p U
-    → memberNamed n (member x o T ms) ≡ found p U
+pub found-later : (n x : List ℕ) (o p : ℕ) (T U : Datatype) (word : Word) (ms : Members) → memberNamed x ms ≡ missing → memberNamed n ms ≡ found p U
+    → memberNamed n (member x o T word ms) ≡ found p U
 unfolding memberNamed
-found-later n x o p T U ms once e = go (same n x) refl
+found-later n x o p T U word ms once e = go (same n x) refl
   where
     go : (t : Bool) → same n x ≡ t → cond t (found o T) (memberNamed n ms) ≡ found p U
     go true q = not-found (sym once ∙ ap (λ (k : List ℕ). memberNamed k ms) (sym (same→eq n x q)) ∙ e)
     go false q = e
 
-pub found-first : (x : List ℕ) (o : ℕ) (T : Datatype) (ms : Members) → memberNamed x (member x o T ms) ≡ found o T
+pub found-first : (x : List ℕ) (o : ℕ) (T : Datatype) (word : Word) (ms : Members) → memberNamed x (member x o T word ms) ≡ found o T
 unfolding memberNamed
-found-first x o T ms = rw (same-refl x)
+found-first x o T word ms = rw (same-refl x)
 
 -- what is found by a name is the first member, or is found behind it
-pub found-cases : (n x : List ℕ) (o p : ℕ) (T U : Datatype) (ms : Members) → memberNamed n (member x o T ms) ≡ found p U
+pub found-cases : (n x : List ℕ) (o p : ℕ) (T U : Datatype) (word : Word) (ms : Members) → memberNamed n (member x o T word ms) ≡ found p U
     → ((n ≡ x) × (found o T ≡ found p U)) ⊎ (memberNamed n ms ≡ found p U)
 unfolding memberNamed
-found-cases n x o p T U ms e = go (same n x) refl e
+found-cases n x o p T U word ms e = go (same n x) refl e
   where
     go : (t : Bool) → same n x ≡ t → cond t (found o T) (memberNamed n ms) ≡ found p U → ((n ≡ x) × (found o T ≡ found p U)) ⊎ (memberNamed n ms ≡ found p U)
     go true q f = inl (same→eq n x q, f)
@@ -77,7 +78,7 @@ same-type e = cc
 apart-found : (o w : ℕ) (ms : Members) (n : List ℕ) {p : ℕ} {U : Datatype} → Apart o w ms → memberNamed n ms ≡ found p U → (o + w ≤ p) ⊎ (p + size U ≤ o)
 unfolding memberNamed
 apart-found o w empty n h e = not-found e
-apart-found o w (member y q X ms) n {p} {U} h e = go (apart-found o w ms n (h .1)) (found-cases n y q p X U ms e)
+apart-found o w (member y q X word ms) n {p} {U} h e = go (apart-found o w ms n (h .1)) (found-cases n y q p X U word ms e)
   where
     go : (memberNamed n ms ≡ found p U → (o + w ≤ p) ⊎ (p + size U ≤ o)) → ((n ≡ y) × (found q X ≡ found p U)) ⊎ (memberNamed n ms ≡ found p U)
         → (o + w ≤ p) ⊎ (p + size U ≤ o)
@@ -89,7 +90,7 @@ pub formed-found : (z : ℕ) (ms : Members) (n : List ℕ) {o : ℕ} {T : Dataty
     → (o + size T ≤ z) × WellFormed T
 unfolding memberNamed
 formed-found z empty n h e = not-found e
-formed-found z (member y q X ms) n {o} {T} h e = go (formed-found z ms n (h .2)) (found-cases n y q o X T ms e)
+formed-found z (member y q X word ms) n {o} {T} h e = go (formed-found z ms n (h .2)) (found-cases n y q o X T word ms e)
   where
     go : (memberNamed n ms ≡ found o T → (o + size T ≤ z) × WellFormed T) → ((n ≡ y) × (found q X ≡ found o T)) ⊎ (memberNamed n ms ≡ found o T)
         → (o + size T ≤ z) × WellFormed T
@@ -98,12 +99,12 @@ formed-found z (member y q X ms) n {o} {T} h e = go (formed-found z ms n (h .2))
 
 -- ---- what a walk by bytes meets: G asks each member in turn whether it holds the byte, and F is what it asks the member then
 module _ {A : Type 0} (G : Members → ℕ → A) (F : List ℕ → Datatype → ℕ → A)
-    (step : (x : List ℕ) (o : ℕ) (T : Datatype) (ms : Members) (b : ℕ) → G (member x o T ms) b ≡ cond (within o (size T) b) (F x T (b - o)) (G ms b)) where
+    (step : (x : List ℕ) (o : ℕ) (T : Datatype) (word : Word) (ms : Members) (b : ℕ) → G (member x o T word ms) b ≡ cond (within o (size T) b) (F x T (b - o)) (G ms b)) where
   reached : (z : ℕ) (ms : Members) (n : List ℕ) {o : ℕ} {T : Datatype} → WellFormedIn z ms → memberNamed n ms ≡ found o T → (b : ℕ) → b < size T
       → G ms (o + b) ≡ F n T b
   unfolding memberNamed
   reached z empty n h e b l = not-found e
-  reached z (member y q X ms) n {o} {T} h e b l = step y q X ms (o + b) ∙ go (reached z ms n (h .2)) (found-cases n y q o X T ms e)
+  reached z (member y q X word ms) n {o} {T} h e b l = step y q X word ms (o + b) ∙ go (reached z ms n (h .2)) (found-cases n y q o X T word ms e)
     where
       go : (memberNamed n ms ≡ found o T → (b : ℕ) → b < size T → G ms (o + b) ≡ F n T b) → ((n ≡ y) × (found q X ≡ found o T)) ⊎ (memberNamed n ms ≡ found o T)
           → cond (within q (size X) (o + b)) (F y X (o + b - q)) (G ms (o + b)) ≡ F n T b
@@ -162,9 +163,9 @@ further-back p (matched c u v) {a} {x} {y} e =
 placed : {S D : Datatype} {a b c d : ℕ} {x y : Leaf} → a ≡ c → b ≡ d → Way S D a b x y → Way S D c d x y
 placed {S} {D} {x = x} {y = y} e f t = subst₂ (λ (i j : ℕ). Way S D i j x y) e f t
 
-pub later : {ss ms : Members} {z w a b : ℕ} {x y : Leaf} (n : List ℕ) (o : ℕ) (T : Datatype) → memberNamed n ms ≡ missing
-    → Way (compound z ss) (compound w ms) a b x y → Way (compound z ss) (compound w (member n o T ms)) a b x y
-later {ms = ms} n o T once (inside {o = q} {T = X} k e f t) = inside k e (found-later k n o q T X ms once f) t
+pub later : {ss ms : Members} {z w a b : ℕ} {x y : Leaf} {word : Word} (n : List ℕ) (o : ℕ) (T : Datatype) → memberNamed n ms ≡ missing
+    → Way (compound z ss) (compound w ms) a b x y → Way (compound z ss) (compound w (member n o T word ms)) a b x y
+later {ms = ms} {word = word} n o T once (inside {o = q} {T = X} k e f t) = inside k e (found-later k n o q T X word ms once f) t
 
 one-way : (S : Datatype) (v : Leaf) {a b : ℕ} {x y : Leaf} → matchAt S (leaf v) b ≡ matched a x y → Way S (leaf v) a b x y
 unfolding matchAt
@@ -183,23 +184,23 @@ one-way S v {a} {b} {x} {y} e = go (eqb b 0) refl e
     go true q g = at S (eqb-true b 0 q) g
     go false q g = no-match g
 
-member-way : (n : List ℕ) (o : ℕ) (T : Datatype) (ms ss : Members) (z w : ℕ) {a b : ℕ} {x y : Leaf} → memberNamed n ms ≡ missing
+member-way : (n : List ℕ) (o : ℕ) (T : Datatype) (ms ss : Members) (z w : ℕ) {a b : ℕ} {x y : Leaf} {word : Word} → memberNamed n ms ≡ missing
     → ((S : Datatype) (c d : ℕ) → matchAt S T d ≡ matched c x y → Way S T c d x y)
     → (matchIn ss ms b ≡ matched a x y → Way (compound z ss) (compound w ms) a b x y)
-    → matchIn ss (member n o T ms) b ≡ matched a x y → Way (compound z ss) (compound w (member n o T ms)) a b x y
+    → matchIn ss (member n o T word ms) b ≡ matched a x y → Way (compound z ss) (compound w (member n o T word ms)) a b x y
 unfolding matchAt
-member-way n o T ms ss z w {a} {b} {x} {y} once down next e = go (within o (size T) b) refl e
+member-way n o T ms ss z w {a} {b} {x} {y} {word} once down next e = go (within o (size T) b) refl e
   where
     held : (h : Lookup) → memberNamed n ss ≡ h → o ≤ b → onFound (λ p S. further p (matchAt S T (b - o))) unmatched h ≡ matched a x y
-        → Way (compound z ss) (compound w (member n o T ms)) a b x y
+        → Way (compound z ss) (compound w (member n o T word ms)) a b x y
     held missing r l g = no-match g
     held (found p S) r l g =
         let m : (c : ℕ) × (matchAt S T (b - o) ≡ matched c x y) × (p + c ≡ a) = further-back p (matchAt S T (b - o)) g in
-        placed (m .2) (omega arith) (inside n r (found-first n o T ms) (down S (m .0) (b - o) (m .1)))
+        placed (m .2) (omega arith) (inside n r (found-first n o T word ms) (down S (m .0) (b - o) (m .1)))
 
     go : (t : Bool) → within o (size T) b ≡ t
         → cond t (onFound (λ p S. further p (matchAt S T (b - o))) unmatched (memberNamed n ss)) (matchIn ss ms b) ≡ matched a x y
-        → Way (compound z ss) (compound w (member n o T ms)) a b x y
+        → Way (compound z ss) (compound w (member n o T word ms)) a b x y
     go true q g = held (memberNamed n ss) refl (within→ o (size T) b q .0) g
     go false q g = later n o T once (next g)
 
@@ -240,7 +241,7 @@ mutual
   members-way : (ms ss : Members) (z w : ℕ) {a b : ℕ} {x y : Leaf} → WellFormedIn w ms → matchIn ss ms b ≡ matched a x y
       → Way (compound z ss) (compound w ms) a b x y
   members-way empty ss z w f e = no-match e
-  members-way (member n o T ms) ss z w f e =
+  members-way (member n o T word ms) ss z w f e =
       member-way n o T ms ss z w (f .0 .name-once) (λ S c d g. match-way T S {a = c} {b = d} (f .1) g) (λ g. members-way ms ss z w (f .2) g) e
 
 -- ---- from a way to its match
@@ -253,7 +254,7 @@ pub way-match : {S D : Datatype} {a b : ℕ} {x y : Leaf} → Way S D a b x y �
 unfolding matchAt
 way-match here f g = refl
 way-match (inside {z = z} {w = w} {p = p} {b = b} {ss = ss} {ms = ms} {S = S} {T = T} n e q t) f g =
-    reached (matchIn ss) (λ k X d. onFound (λ i U. further i (matchAt U X d)) unmatched (memberNamed k ss)) (λ k o X r d. refl) w ms n (g .1) q b
+    reached (matchIn ss) (λ k X d. onFound (λ i U. further i (matchAt U X d)) unmatched (memberNamed k ss)) (λ k o X v r d. refl) w ms n (g .1) q b
     (way-starts t (formed-found w ms n (g .1) q .1))
     ∙ rw e (ap (further p) (way-match t (formed-found z ss n (f .1) e .1) (formed-found w ms n (g .1) q .1)))
 way-match (element {w = w} {a = a} {b = b} {es = es} {ds = ds} {S = S} {T = T} k e h t) f g =
@@ -276,7 +277,7 @@ pub way-leaf : {S D : Datatype} {a b : ℕ} {x y : Leaf} → Way S D a b x y →
 unfolding leafAt
 way-leaf here g = refl
 way-leaf (inside {w = w} {b = b} {ms = ms} n e q t) g =
-    reached leafIn (λ k X d. leafAt X d) (λ k o X r d. refl) w ms n (g .1) q b (way-starts t (formed-found w ms n (g .1) q .1))
+    reached leafIn (λ k X d. leafAt X d) (λ k o X v r d. refl) w ms n (g .1) q b (way-starts t (formed-found w ms n (g .1) q .1))
     ∙ way-leaf t (formed-found w ms n (g .1) q .1)
 way-leaf (element {w = w} {b = b} {ds = ds} {T = T} k e h t) g =
     let l : b < size T = way-starts t (g .1) in
@@ -291,7 +292,7 @@ way-alone (inside {w = w} {o = o} {b = b} {ms = ms} {T = T} {y = y} n e q t) g c
     let back : o + d ≡ c = omega arith in
     let f : WellFormed T = formed-found w ms n (g .1) q .1 in
     subst (λ (i : ℕ). leafIn ms i ≡ none) back
-    (reached leafIn (λ k X i. leafAt X i) (λ k p X s i. refl) w ms n (g .1) q d (omega (arith, way-range t f))
+    (reached leafIn (λ k X i. leafAt X i) (λ k p X v s i. refl) w ms n (g .1) q d (omega (arith, way-range t f))
     ∙ way-alone t f d (omega arith) (omega arith))
 way-alone (element {w = w} {b = b} {ds = ds} {T = T} {y = y} k e h t) g c l r =
     let d : ℕ = c - k * size T in
@@ -302,19 +303,19 @@ way-alone (element {w = w} {b = b} {ds = ds} {T = T} {y = y} k e h t) g c l r =
     (rw (element-inside w k d ds T (g .0) h s, mul-add-mod-self-right k (size T) d, mod-eq-of-lt s)
     (way-alone t f d (omega arith) (omega arith)))
 
-member-leaf : (n : List ℕ) (o : ℕ) (T : Datatype) (ms : Members) (w : ℕ) {b : ℕ} {y : Leaf} → memberNamed n ms ≡ missing
+member-leaf : (n : List ℕ) (o : ℕ) (T : Datatype) (ms : Members) (w : ℕ) {b : ℕ} {y : Leaf} {word : Word} → memberNamed n ms ≡ missing
     → ((d : ℕ) → leafAt T d ≡ some y → Way T T d d y y)
     → (leafIn ms b ≡ some y → Way (compound w ms) (compound w ms) b b y y)
-    → leafIn (member n o T ms) b ≡ some y → Way (compound w (member n o T ms)) (compound w (member n o T ms)) b b y y
+    → leafIn (member n o T word ms) b ≡ some y → Way (compound w (member n o T word ms)) (compound w (member n o T word ms)) b b y y
 unfolding leafAt
-member-leaf n o T ms w {b} {y} once down next e = go (within o (size T) b) refl e
+member-leaf n o T ms w {b} {y} {word} once down next e = go (within o (size T) b) refl e
   where
     go : (t : Bool) → within o (size T) b ≡ t → cond t (leafAt T (b - o)) (leafIn ms b) ≡ some y
-        → Way (compound w (member n o T ms)) (compound w (member n o T ms)) b b y y
+        → Way (compound w (member n o T word ms)) (compound w (member n o T word ms)) b b y y
     go true q g =
         let l : o ≤ b = within→ o (size T) b q .0 in
         let back : o + (b - o) ≡ b = omega arith in
-        placed back back (inside n (found-first n o T ms) (found-first n o T ms) (down (b - o) g))
+        placed back back (inside n (found-first n o T word ms) (found-first n o T word ms) (down (b - o) g))
     go false q g = later n o T once (flip (later n o T once (next g)))
 
 array-leaf : (T : Datatype) (w : ℕ) (ds : List ℕ) {b : ℕ} {y : Leaf} → ArraySize w ds (size T) → ((d : ℕ) → leafAt T d ≡ some y → Way T T d d y y)
@@ -347,4 +348,4 @@ mutual
 
   leaves-way : (ms : Members) (w : ℕ) {b : ℕ} {y : Leaf} → WellFormedIn w ms → leafIn ms b ≡ some y → Way (compound w ms) (compound w ms) b b y y
   leaves-way empty w f e = nothing e
-  leaves-way (member n o T ms) w f e = member-leaf n o T ms w (f .0 .name-once) (λ d g. leaf-way T {b = d} (f .1) g) (λ g. leaves-way ms w (f .2) g) e
+  leaves-way (member n o T word ms) w f e = member-leaf n o T ms w (f .0 .name-once) (λ d g. leaf-way T {b = d} (f .1) g) (λ g. leaves-way ms w (f .2) g) e

@@ -8,6 +8,7 @@ use Rattle.bits.specs.declared.Order.{Order}
 use Rattle.layout.specs.declared.Class.the-variants.{Int}
 use Rattle.layout.specs.declared.Pad.the-variants.{Zero}
 use Rattle.layout.specs.declared.Layout.{Layout}
+use Rattle.datatype.specs.declared.Word.{Word}
 -- names are compared byte by byte
 unfoldable pub use Rattle.text.specs.Place.{sameBytes as same}
 
@@ -45,10 +46,11 @@ mutual
     compound : ℕ → Members → Datatype
     array : ℕ → List ℕ → Datatype → Datatype
 
-  -- a member's name, its byte offset and its type, and the members before it
+  -- a member's name, its byte offset, its type and its word, and the members before it. Document 02, 2026-12: "A destination `member` line may end in a further field
+  -- `clamp` or `stop`"; a member without one is silent
   pub data Members : Type 0 where
     empty : Members
-    member : List ℕ → ℕ → Datatype → Members → Members
+    member : List ℕ → ℕ → Datatype → Word → Members → Members
 
 abbrev pub layoutOf : Leaf → Layout
 layoutOf (atomic l) = l

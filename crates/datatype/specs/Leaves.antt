@@ -20,4 +20,4 @@ unfoldable mutual
 
   pub leafIn : Members → ℕ → Option Leaf
   leafIn empty b = none
-  leafIn (member x offset T ms) b = cond (within offset (size T) b) (leafAt T (b - offset)) (leafIn ms b)
+  leafIn (member x offset T word ms) b = cond (within offset (size T) b) (leafAt T (b - offset)) (leafIn ms b)

@@ -5,4 +5,5 @@ pub mod Paths
 pub mod Matches
 pub mod WellFormed
 pub mod HasPath
+pub mod Handling
 pub mod SymbolSets

@@ -40,7 +40,7 @@ unfoldable mutual
 
   pub matchIn : Members → Members → ℕ → Match
   matchIn ss empty b = unmatched
-  matchIn ss (member x offset T ms) b =
+  matchIn ss (member x offset T word ms) b =
       cond (within offset (size T) b)
       (onFound (λ o S. further o (matchAt S T (b - offset))) unmatched (memberNamed x ss))
       (matchIn ss ms b)

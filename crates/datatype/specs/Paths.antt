@@ -38,7 +38,7 @@ onFound f other (found offset T) = f offset T
 
 unfoldable pub memberNamed : List ℕ → Members → Lookup
 memberNamed x empty = missing
-memberNamed x (member y offset T ms) = cond (same x y) (found offset T) (memberNamed x ms)
+memberNamed x (member y offset T word ms) = cond (same x y) (found offset T) (memberNamed x ms)
 
 -- ---- what a source is asked for, class by class
 
@@ -79,4 +79,4 @@ unfoldable mutual
   -- "from compound to compound if each destination member whose name is in the source has a path from it"
   pub pathsTo : Members → Members → Bool
   pathsTo ss empty = true
-  pathsTo ss (member x offset T ms) = onFound (λ o S. hasPath S T) true (memberNamed x ss) && pathsTo ss ms
+  pathsTo ss (member x offset T word ms) = onFound (λ o S. hasPath S T) true (memberNamed x ss) && pathsTo ss ms

@@ -48,7 +48,7 @@ unfoldable mutual
   -- a member whose name the source lacks is not matched, so its symbols don't count
   pub keepsIn : Members → Members → Bool
   keepsIn ss empty = true
-  keepsIn ss (member x offset T ms) = onFound (λ o S. keepsSymbols S T) true (memberNamed x ss) && keepsIn ss ms
+  keepsIn ss (member x offset T word ms) = onFound (λ o S. keepsSymbols S T) true (memberNamed x ss) && keepsIn ss ms
 
 -- ---- the same in the paper's words: `keepsSymbols` computes that there is none of these
 

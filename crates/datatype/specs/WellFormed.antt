@@ -41,7 +41,7 @@ WellFormedLeaf (real l) = l ≡ binary64 (l .order)
 -- the w bytes from offset on overlap no member
 abbrev pub Apart : ℕ → ℕ → Members → Type 0
 Apart offset w empty = Unit {0}
-Apart offset w (member y p U ms) = ((offset + w ≤ p) ⊎ (p + size U ≤ offset)) × Apart offset w ms
+Apart offset w (member y p U word ms) = ((offset + w ≤ p) ⊎ (p + size U ≤ offset)) × Apart offset w ms
 
 -- "with unique names, inside the size, not overlapping": a member of w bytes, after the members ms, in a compound of z bytes
 pub record Placed (z : ℕ) (x : List ℕ) (offset w : ℕ) (ms : Members) : Type 0 where
@@ -74,4 +74,4 @@ abbrev mutual
 
   pub WellFormedIn : ℕ → Members → Type 0
   WellFormedIn z empty = Unit {0}
-  WellFormedIn z (member x offset T ms) = Placed z x offset (size T) ms × WellFormed T × WellFormedIn z ms
+  WellFormedIn z (member x offset T word ms) = Placed z x offset (size T) ms × WellFormed T × WellFormedIn z ms

@@ -15,6 +15,7 @@ ghost use Rattle.sheet_steps.specs.Steps.{isIntAt, TypeAdded, RowAdded};
 use bits::BitAt;
 use bits::ByteAt;
 use bits::Order;
+use datatype::Word;
 use layout::Class;
 use layout::Layout;
 use layout::Pad;
@@ -219,9 +220,10 @@ pub fn judge_member(
     len: usize,
     offset: u32,
     kind: u32,
+    word: Word,
 ) -> Judged
     requires { ⌜ Holds (now half) types rows × Noted (now half) (now sheet) types rows × (start < 4294967296) × (len < 4294967296) ⌝ }
-    ensures { λ r. ⌜ Judges (now (half .exit)) (now (sheet .entry)) (judgedAfter (soFarAt (now (half .entry)) (now (sheet .entry)) types rows) (memberLine (bytesAt (now (sheet .entry)) start len) offset kind)) r ⌝ }
+    ensures { λ r. ⌜ Judges (now (half .exit)) (now (sheet .entry)) (judgedAfter (soFarAt (now (half .entry)) (now (sheet .entry)) types rows) (memberLine (bytesAt (now (sheet .entry)) start len) offset kind word)) r ⌝ }
 {
     if types == 0 {
         return Judged::Refused;
@@ -238,7 +240,7 @@ pub fn judge_member(
     if !may_add(half, sheet, i, start, len, mark, offset as usize, width) {
         return Judged::Refused;
     }
-    let r = member_record(start as u32, len as u32, offset, kind);
+    let r = member_record(start as u32, len as u32, offset, kind, word);
     let judged = next_row(half, types, rows, mark, r);
     raise_end(half, i, (offset as usize + width) as u32);
     judged

@@ -9,12 +9,13 @@ use lib.IntN.{ℤ}
 use Rattle.bits.specs.declared.Order.{Order}
 use Rattle.layout.specs.declared.Pad.{Pad}
 use Rattle.layout.specs.declared.Layout.{Layout}
+use Rattle.datatype.specs.declared.Word.{Word}
 use Rattle.number.specs.Parts.{signedBy}
 use Rattle.text.specs.declared.Field.{Field}
 use Rattle.text.specs.declared.Field.the-variants as field
 use Rattle.text.specs.declared.Whole.{Whole}
 use Rattle.text.specs.declared.Whole.the-variants as whole
-use Rattle.line.specs.Column.{Found, onFound, foundNumber, foundWhole, foundName, foundOrder, foundPad, foundSign, onPlace, onPads, onLayout}
+use Rattle.line.specs.Column.{Found, onFound, foundNumber, foundWhole, foundName, foundOrder, foundPad, foundSign, foundWord, onPlace, onPads, onLayout}
 use Rattle.line.specs.Column.Found.{found, missing}
 use Rattle.line.specs.declared.NameColumn.{NameColumn}
 use Rattle.line.specs.declared.NameColumn.the-variants as nameColumn
@@ -24,6 +25,8 @@ use Rattle.line.specs.declared.PadColumn.{PadColumn}
 use Rattle.line.specs.declared.PadColumn.the-variants as padColumn
 use Rattle.line.specs.declared.SignColumn.{SignColumn}
 use Rattle.line.specs.declared.SignColumn.the-variants as signColumn
+use Rattle.line.specs.declared.WordColumn.{WordColumn}
+use Rattle.line.specs.declared.WordColumn.the-variants as wordColumn
 use Rattle.line.specs.declared.PlaceColumns.{PlaceColumns}
 use Rattle.line.specs.declared.PlaceColumns.the-variants as placeColumns
 use Rattle.line.specs.declared.PadColumns.{PadColumns}
@@ -84,6 +87,13 @@ module _ {R : Type 0} (x bad : R) where
 
     pub on-sign-fault : f ≡ signColumn.Fault → x ≡ bad → x ≡ onFound g k bad
     on-sign-fault e h = on-missing x bad k g (sym is ∙ ap foundSign e) h
+
+  module _ (f : WordColumn) (g : Found Word) (k : Word → ℕ → R) (is : foundWord f ≡ g) where
+    pub on-word : (w : Word) (n : ℕ) → f ≡ wordColumn.Holds w n → x ≡ k w n → x ≡ onFound g k bad
+    on-word w n e h = on-found x bad k g w n (sym is ∙ ap foundWord e) h
+
+    pub on-word-fault : f ≡ wordColumn.Fault → x ≡ bad → x ≡ onFound g k bad
+    on-word-fault e h = on-missing x bad k g (sym is ∙ ap foundWord e) h
 
   -- ---- the columns of a layout
 

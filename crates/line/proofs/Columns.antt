@@ -16,6 +16,8 @@ use Rattle.bits.specs.declared.Order.{Order}
 use Rattle.bits.specs.declared.Order.the-variants.{LE, BE}
 use Rattle.layout.specs.declared.Pad.{Pad}
 use Rattle.layout.specs.declared.Pad.the-variants.{Zero, One, Keep}
+use Rattle.datatype.specs.declared.Word.{Word}
+use Rattle.datatype.specs.declared.Word.the-variants.{Silent, Clamp, Stop}
 use Rattle.text.specs.Field.{when, _>>=_, number, enumNumber, eachPrintable, name}
 use Rattle.text.specs.Place.{fieldAt, fieldEnd, byteAt, tabAt, newlineAt, sameBytes, asField, numberAt, asName, nameAt, asWhole, wholeAt}
 use Rattle.text.specs.declared.Field.{Field}
@@ -25,8 +27,8 @@ use Rattle.text.specs.declared.Whole.{Whole}
 use Rattle.text.specs.declared.Whole.the-variants as whole
 use Rattle.text.proofs.Places.{field-bytes}
 use Rattle.text.specs.Text.{bytes}
-use Rattle.line.specs.Line.{word, noWord, order, pad, sign}
-use Rattle.line.specs.Column.{Found, given, columnAt, nextAt, holdable, wholeNumber, foundNumber, foundWhole}
+use Rattle.line.specs.Line.{word, noWord, order, pad, sign, memberWord}
+use Rattle.line.specs.Column.{Found, given, columnAt, optionalAt, nextAt, holdable, wholeNumber, foundNumber, foundWhole}
 use Rattle.line.specs.Column.Found.{found, missing}
 use Rattle.line.specs.declared.Next.the-variants as next
 
@@ -146,6 +148,16 @@ module _ (s : List ℕ) (q : ℕ) (t : Bool) (tab : t ≡ tabAt s q) where
     unfolding sign
     sign-column x is = is ∙ column-here sign
 
+    pub word-column : (x : Found Word)
+        → x ≡ given (word (bytes "clamp") Clamp (word (bytes "stop") Stop noWord) (fieldAt s (q + 1))) (fieldEnd s (q + 1)) → x ≡ optionalAt memberWord Silent s q
+    unfolding memberWord optionalAt
+    word-column x is = is ∙ simp tab-here
+
+  -- a column that the line does not have
+  pub word-absent : not t ≡ true → found Silent q ≡ optionalAt memberWord Silent s q
+  unfolding optionalAt
+  word-absent h = simp (← tab, not-true t h)
+
 module _ {A : Type 0} (f w : List ℕ) (b : Bool) (same : b ≡ sameBytes f w) (a : A) (o : Option A) (e n : ℕ) where
   pub word-is : b ≡ true → e ≡ n → found a e ≡ given (cond (sameBytes f w) (some a) o) n
   word-is h ends = rw ends (simp (← same, h))
@@ -155,4 +167,4 @@ module _ {A : Type 0} (f w : List ℕ) (b : Bool) (same : b ≡ sameBytes f w) (
 
 pub ruleset column-laws = (needs, place-fits, no-column, number-column, whole-column, name-column-fault, name-column)
 
-pub ruleset word-laws = (needs, place-fits, no-column, order-column, pad-column, sign-column, word-is, word-not)
+pub ruleset word-laws = (needs, place-fits, no-column, order-column, pad-column, sign-column, word-column, word-absent, word-is, word-not)

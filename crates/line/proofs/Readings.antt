@@ -21,9 +21,9 @@ use Rattle.text.specs.Field.{when, _>>=_, number, enumNumber, eachPrintable, na
 use Rattle.text.specs.Place.{fieldAt, fieldEnd, lineEnd, tabAt, newlineAt, fieldsAfter}
 use Rattle.text.proofs.Places.{field-length, fields-at, line-end-last, line-end-tab}
 use Rattle.line.specs.Line as said
-use Rattle.line.specs.Line.{Fields, column, ends, order, pad, sign, layout, layoutColumns, intLine, bitsLine, valueLineOf}
+use Rattle.line.specs.Line.{Fields, column, optional, ends, order, pad, sign, layout, layoutColumns, intLine, bitsLine, valueLineOf}
 use Rattle.line.specs.Line.Line.{atomicLine, valueLine}
-use Rattle.line.specs.Column.{Found, given, columnAt, onFound, nextAt, holdable, wholeNumber, foundWhole, foundName, placeAt, padsAt, onPlace, onPads, layoutAt, onLayout, signedAs}
+use Rattle.line.specs.Column.{Found, given, columnAt, optionalAt, onFound, nextAt, holdable, wholeNumber, foundWhole, foundName, placeAt, padsAt, onPlace, onPads, layoutAt, onLayout, signedAs}
 use Rattle.line.specs.Column.Found.{found, missing}
 use Rattle.line.specs.Read.{readable, Reading, readingTo, restEnd, columnsReading, nameWithin, namesWithin, reading, Reads}
 use Rattle.line.specs.Read.Reading.{reads, faulty}
@@ -112,6 +112,19 @@ module _ (s : List ℕ) (q : ℕ) where
       go : (g : Found A) → onFound g (λ v n. columnsReading s n (rest v)) faulty ≡ F (onFound g k bad)
       go (found v n) = h v n
       go missing = sym e
+
+  -- ---- a column that the line may have
+
+  module _ {A : Type 0} (read : List ℕ → Option A) (absent : A) (rest : A → Fields → Option said.Line) where
+    optional-tab : (t : Bool) → tabAt s q ≡ t
+        → columnsReading s q (optional read absent rest) ≡ onFound (optionalAt read absent s q) (λ v n. columnsReading s n (rest v)) faulty
+    unfolding columnsReading optionalAt optional column onFound
+    optional-tab true h = rw (fields-some h) (simp h (column-given read rest (read (fieldAt s (q + 1)))))
+    optional-tab false h = rw (fields-none h) (simp h (rw (fields-none h) refl))
+
+    pub optional-is : (x : Reading) → x ≡ onFound (optionalAt read absent s q) (λ v n. columnsReading s n (rest v)) faulty
+        → x ≡ columnsReading s q (optional read absent rest)
+    optional-is x h = h ∙ sym (optional-tab (tabAt s q) refl)
 
   -- ---- the end of a line
 
@@ -267,4 +280,4 @@ module _ (s : List ℕ) (r : ReadLine) (x : Reading) where
 pub atomic-reads : (l m : Layout) (n : ℕ) → l ≡ m → reads (atomicLine l) n ≡ reads (atomicLine m) n
 atomic-reads l m n e = rw e
 
-pub ruleset line-laws = (a.on-laws, a.on-layout, a.on-layout-fault, a.on-sign, a.on-sign-fault, a.on-name, a.on-name-fault, a.on-whole, a.on-whole-fault, column-is, line-ends, line-not-ended, int-is, bits-is, value-is, value-readable, name-within, reads-by, atomic-reads)
+pub ruleset line-laws = (a.on-laws, a.on-layout, a.on-layout-fault, a.on-sign, a.on-sign-fault, a.on-name, a.on-name-fault, a.on-whole, a.on-whole-fault, a.on-word, a.on-word-fault, column-is, optional-is, line-ends, line-not-ended, int-is, bits-is, value-is, value-readable, name-within, reads-by, atomic-reads)

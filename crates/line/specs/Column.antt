@@ -10,6 +10,7 @@ use Rattle.bits.specs.declared.Order.{Order}
 use Rattle.layout.specs.declared.Class.{Class}
 use Rattle.layout.specs.declared.Pad.{Pad}
 use Rattle.layout.specs.declared.Layout.{Layout}
+use Rattle.datatype.specs.declared.Word.{Word}
 use Rattle.number.specs.Parts.{signedBy}
 use Rattle.text.specs.Field.{when, _>>=_, number, enumNumber}
 use Rattle.text.specs.Place.{fieldAt, fieldEnd, tabAt, newlineAt}
@@ -28,6 +29,8 @@ use Rattle.line.specs.declared.PadColumn.{PadColumn}
 use Rattle.line.specs.declared.PadColumn.the-variants as padColumn
 use Rattle.line.specs.declared.SignColumn.{SignColumn}
 use Rattle.line.specs.declared.SignColumn.the-variants as signColumn
+use Rattle.line.specs.declared.WordColumn.{WordColumn}
+use Rattle.line.specs.declared.WordColumn.the-variants as wordColumn
 use Rattle.line.specs.declared.PlaceColumns.{PlaceColumns}
 use Rattle.line.specs.declared.PlaceColumns.the-variants as placeColumns
 use Rattle.line.specs.declared.PadColumns.{PadColumns}
@@ -52,6 +55,10 @@ given none e = missing
 -- the column behind a field that ended at q
 unfoldable pub columnAt : {A : Type 0} → (List ℕ → Option A) → List ℕ → ℕ → Found A
 columnAt read s q = cond (tabAt s q) (given (read (fieldAt s (q + 1))) (fieldEnd s (q + 1))) missing
+
+-- the column behind a field that ended at q, if the line has one; else it is `absent`, and ends at q itself
+unfoldable pub optionalAt : {A : Type 0} → (List ℕ → Option A) → A → List ℕ → ℕ → Found A
+optionalAt read absent s q = cond (tabAt s q) (given (read (fieldAt s (q + 1))) (fieldEnd s (q + 1))) (found absent q)
 
 -- what is made of a column
 unfoldable pub onFound : {A R : Type 0} → Found A → (A → ℕ → R) → R → R
@@ -91,6 +98,10 @@ foundPad padColumn.Fault = missing
 abbrev pub foundSign : SignColumn → Found Bool
 foundSign (signColumn.Holds b n) = found b n
 foundSign signColumn.Fault = missing
+
+abbrev pub foundWord : WordColumn → Found Word
+foundWord (wordColumn.Holds w n) = found w n
+foundWord wordColumn.Fault = missing
 
 -- ---- the columns of a layout
 

@@ -11,6 +11,8 @@ use Rattle.layout.specs.declared.Class.the-variants.{Int, Bits}
 use Rattle.layout.specs.declared.Pad.{Pad}
 use Rattle.layout.specs.declared.Pad.the-variants.{Zero, One, Keep}
 use Rattle.layout.specs.declared.Layout.{Layout}
+use Rattle.datatype.specs.declared.Word.{Word}
+use Rattle.datatype.specs.declared.Word.the-variants.{Silent, Clamp, Stop}
 use Rattle.datatype.specs.Datatype.{same}
 use Rattle.text.specs.Text.{bytes, tab, split}
 use Rattle.text.specs.Field.{_>>=_, number, enumNumber, name}
@@ -23,6 +25,11 @@ Fields = List (List ℕ)
 unfoldable pub column : {A R : Type 0} → (List ℕ → Option A) → (A → Fields → Option R) → Fields → Option R
 column read rest [] = none
 column read rest (f ∷ fs) = read f >>= λ a. rest a fs
+
+-- the same of a column that the line may have; where none is left it is `absent`
+unfoldable pub optional : {A R : Type 0} → (List ℕ → Option A) → A → (A → Fields → Option R) → Fields → Option R
+optional read absent rest [] = rest absent []
+optional read absent rest (f ∷ fs) = column read rest (f ∷ fs)
 
 -- no column is left
 abbrev pub ends : {R : Type 0} → R → Fields → Option R
@@ -48,6 +55,10 @@ pad = word (bytes "zero") Zero (word (bytes "one") One (word (bytes "keep") Keep
 unfoldable pub sign : List ℕ → Option Bool
 sign = word (bytes "signed") true (word (bytes "unsigned") false noWord)
 
+-- document 02, 2026-12: "a further field `clamp` or `stop`"
+unfoldable pub memberWord : List ℕ → Option Word
+memberWord = word (bytes "clamp") Clamp (word (bytes "stop") Stop noWord)
+
 -- ---- lines
 
 -- what a line says, before it is judged by the lines before it
@@ -56,7 +67,7 @@ pub data Line : Type 0 where
   enumLine : ℕ → Line  -- the base's type number
   valueLine : List ℕ → ℤ → Line
   compoundLine : ℕ → Line  -- the size
-  memberLine : List ℕ → ℕ → ℕ → Line  -- the name, the byte offset and the type's number
+  memberLine : List ℕ → ℕ → ℕ → Word → Line  -- the name, the byte offset, the type's number and the word
   arrayLine : ℕ → List ℕ → Line  -- the base's type number and the dimensions
   realLine : ℕ → Order → Line  -- the size and the order
 
@@ -89,9 +100,9 @@ valueLineOf = column name λ x. column enumNumber λ z. ends (valueLine x z)
 unfoldable pub compoundLineOf : Fields → Option Line
 compoundLineOf = column number λ z. ends (compoundLine z)
 
--- `member⇥name⇥byte offset⇥type`
+-- `member⇥name⇥byte offset⇥type`; document 02, 2026-12: it "may end in a further field", of either sheet: "source sheets may carry it without effect"
 unfoldable pub memberLineOf : Fields → Option Line
-memberLineOf = column name λ x. column number λ offset. column number λ k. ends (memberLine x offset k)
+memberLineOf = column name λ x. column number λ offset. column number λ k. optional memberWord Silent λ word. ends (memberLine x offset k word)
 
 -- every column that is left is a number
 unfoldable pub numbers : Fields → Option (List ℕ)

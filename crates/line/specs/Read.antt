@@ -31,7 +31,7 @@ readable (arrayLine base ds) = leb 1 (length ds) && leb (length ds) 4 && eachPos
 readable (atomicLine l) = true
 readable (enumLine base) = true
 readable (compoundLine z) = true
-readable (memberLine x offset k) = true
+readable (memberLine x offset k word) = true
 readable (realLine z o) = true
 
 -- ---- what an answer says
@@ -41,7 +41,7 @@ sayOf s (Atomic l n) dims = some (atomicLine l)
 sayOf s (Enum base n) dims = some (enumLine base)
 sayOf s (Value a e negative d n) dims = some (valueLine (take (e - a) (drop a s)) (signedBy negative d))
 sayOf s (Compound z n) dims = some (compoundLine z)
-sayOf s (Member a e offset k n) dims = some (memberLine (take (e - a) (drop a s)) offset k)
+sayOf s (Member a e offset k word n) dims = some (memberLine (take (e - a) (drop a s)) offset k word)
 sayOf s (Array base n) dims = some (arrayLine base (upToZero dims))
 sayOf s (Real z o n) dims = some (realLine z o)
 sayOf s Fault dims = none
@@ -54,7 +54,7 @@ nextAfter (Atomic l n) = n
 nextAfter (Enum base n) = n
 nextAfter (Value a e negative d n) = n
 nextAfter (Compound z n) = n
-nextAfter (Member a e offset k n) = n
+nextAfter (Member a e offset k word n) = n
 nextAfter (Array base n) = n
 nextAfter (Real z o n) = n
 nextAfter Fault = 0
@@ -114,7 +114,7 @@ nameWithin s a e = ltb a e && leb e (a + 31) && leb e (length s)
 
 abbrev pub namesWithin : List ℕ → Line → Bool
 namesWithin s (Value a e negative d n) = nameWithin s a e
-namesWithin s (Member a e offset k n) = nameWithin s a e
+namesWithin s (Member a e offset k word n) = nameWithin s a e
 namesWithin s (Atomic l n) = true
 namesWithin s (Enum base n) = true
 namesWithin s (Compound z n) = true

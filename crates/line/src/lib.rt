@@ -2,6 +2,7 @@
 ghost use Rattle.line.specs.Read.{plainLine};
 ghost use mathlib.Core.Path.{_≡_};
 use bits::Order;
+use datatype::Word;
 use layout::Layout;
 use layout::Pad;
 
@@ -15,8 +16,8 @@ pub enum Line {
     Value(usize, usize, bool, u64, usize),
     // The size.
     Compound(u32, usize),
-    // The name's start and end, the byte offset, and the type's number.
-    Member(usize, usize, u32, u32, usize),
+    // The name's start and end, the byte offset, the type's number, and the word.
+    Member(usize, usize, u32, u32, Word, usize),
     // The base's type number: the dimensions stand beside.
     Array(u32, usize),
     // The size and the order.
@@ -48,6 +49,12 @@ pub enum PadColumn {
 
 pub enum SignColumn {
     Holds(bool, usize),
+    Fault,
+}
+
+// A member's word: where the line has no such column, it is silent, and the place is where the field before it ended.
+pub enum WordColumn {
+    Holds(Word, usize),
     Fault,
 }
 

@@ -1,15 +1,18 @@
 // A column of a line: its tab stands at q, where the field before it ended.
 ghost use mathlib.Core.Path.{_≡_};
 ghost use Rattle.text.specs.Field.{number, name};
-ghost use Rattle.line.specs.Line.{order, pad, sign};
-ghost use Rattle.line.specs.Column.{columnAt, nextAt, wholeNumber, foundNumber, foundWhole, foundName, foundOrder, foundPad, foundSign};
+ghost use Rattle.datatype.specs.declared.Word.the-variants.{Silent};
+ghost use Rattle.line.specs.Line.{order, pad, sign, memberWord};
+ghost use Rattle.line.specs.Column.{columnAt, optionalAt, nextAt, wholeNumber, foundNumber, foundWhole, foundName, foundOrder, foundPad, foundSign, foundWord};
 use bits::Order;
+use datatype::Word;
 use layout::Pad;
 use line::NameColumn;
 use line::Next;
 use line::OrderColumn;
 use line::PadColumn;
 use line::SignColumn;
+use line::WordColumn;
 use text::Field;
 use text::Name;
 use text::Whole;
@@ -114,4 +117,22 @@ pub fn sign_column(s: &[u8], q: usize) -> SignColumn
         return SignColumn::Holds(false, end);
     }
     SignColumn::Fault
+}
+
+// A column that a member's line may have: a member without it is silent.
+pub fn word_column(s: &[u8], q: usize) -> WordColumn
+    ensures { λ r. ⌜ foundWord r ≡ optionalAt memberWord Silent (now (s .entry)) q ⌝ }
+{
+    if !is_tab(s, q) {
+        return WordColumn::Holds(Word::Silent, q);
+    }
+    let at = q + 1;
+    let end = field_end(s, at);
+    if word_at(s, at, b"clamp") {
+        return WordColumn::Holds(Word::Clamp, end);
+    }
+    if word_at(s, at, b"stop") {
+        return WordColumn::Holds(Word::Stop, end);
+    }
+    WordColumn::Fault
 }

@@ -14,6 +14,7 @@ use Rattle.answer.specs.declared.Answer.the-variants.{Done}
 use Rattle.answer.specs.Answer.{numberOf, valuesOf}
 use Rattle.datatype.specs.Datatype.{Datatype, size}
 use Rattle.datatype.specs.Matches.Match.{matched}
+use Rattle.datatype.specs.Handling.{clamp, AllClamp}
 use Rattle.datatype.proofs.Tests.{both}
 use Rattle.datatype.proofs.Matches.{in-range, match-formed, match-path}
 use Rattle.datatype.proofs.SymbolSets.{each-stands}
@@ -24,6 +25,7 @@ use Rattle.runs.specs.Run.Form.{copying, inPlace}
 use Rattle.runs.specs.Run.Checked.{passed}
 use Rattle.runs.specs.Parts.{convertedBytes}
 use Rattle.runs.proofs.Checks.{tells-passed}
+use Rattle.runs.proofs.Exceptions.{clamped-handled}
 use Rattle.runs.proofs.Buffers.{answer-is}
 use Rattle.promises.specs.Promise.{SameCall}
 use Rattle.promises.proofs.Promises.{converted-is}
@@ -37,7 +39,7 @@ use Rattle.mask_promises.proofs.Witness.{Sources, sources}
 use Rattle.mask_promises.proofs.Mask.{masked-tells, source-formed, destination-formed}
 use Rattle.mask_promises.proofs.OnMask.{significant}
 
-module _ (c : Call) (S D : Datatype) (m : Masked c S D) (form : Form) (n : ℕ) (few : n ≤ 65536) where
+module _ (c : Call) (S D : Datatype) (m : Masked c S D) (clamps : AllClamp 0 S D) (form : Form) (n : ℕ) (few : n ≤ 65536) where
   long : ℕ
   long = n * max (size S) (size D)
 
@@ -86,7 +88,7 @@ module _ (c : Call) (S D : Datatype) (m : Masked c S D) (form : Form) (n : ℕ) 
         })
 
     on-answers : answer (on p) ≡ Done (exceptions S D n (readings S D p))
-    on-answers = answer-is (on p) S D on-passes
+    on-answers = answer-is (on p) S D on-passes ∙ clamped-handled S D 0 n (readings S D p) clamps
 
     on-converts : convertedBytes D n (after (on p)) ≡ convertedRecords S D n (readings S D p) background
     on-converts = converted-is (on p) S D on-passes (ap numberOf on-answers)
@@ -132,9 +134,9 @@ module _ (c : Call) (S D : Datatype) (m : Masked c S D) (form : Form) (n : ℕ) 
         }
 
 -- each bit of the mask does show, in every record of every number of them; a bit of n records says that n is at least 1
-pub each-shows : (c : Call) (S D : Datatype) → Masked c S D → (form : Form) (n : ℕ) → n ≤ 65536 → (b : BitOf c S n) → ¬ (WithoutValue S D b)
+pub each-shows : (c : Call) (S D : Datatype) → Masked c S D → AllClamp clamp S D → (form : Form) (n : ℕ) → n ≤ 65536 → (b : BitOf c S n) → ¬ (WithoutValue S D b)
     → Shows c S D form n b
-each-shows c S D m form n few b value =
+each-shows c S D m clamps form n few b value =
     let s = significant c S D m b in
     let fs = source-formed c S D m in
     let fd = destination-formed c S D m in
@@ -143,6 +145,6 @@ each-shows c S D m form n few b value =
     let quiet =
     quiet-bits (s .source) (s .destination) (f .0) (f .1) (match-path S D fs fd (t .path) (s .to) (s .from) (s .source) (s .destination) (s .match))
     (λ l k ss ts e g. each-stands S D fs fd (t .symbols) (s .to) (s .from) l k ss ts (s .match ∙ ap₂ (matched (s .from)) e g)) (λ v. value (s, v)) in
-    shown c S D m form n few b s quiet
-    (sources S n (b .index) (b .byte) (b .at) (s .source) (s .from) (quiet .bits) (long c S D m form n few) (source-room c S D m form n few) (b .in-records) (b .in-record)
+    shown c S D m clamps form n few b s quiet
+    (sources S n (b .index) (b .byte) (b .at) (s .source) (s .from) (quiet .bits) (long c S D m clamps form n few) (source-room c S D m clamps form n few) (b .in-records) (b .in-record)
     (b .in-byte) (f .0) (in-range S D fs fd (s .to) (s .from) (s .source) (s .destination) (s .match) .1) (quiet .fits))

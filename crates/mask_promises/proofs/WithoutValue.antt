@@ -1,4 +1,4 @@
--- The bits of a source enum without a value: with handling 0 every number raises alike, so they do not show. Assumes nothing: the types of sheets are well formed
+-- The bits of a source enum without a value: where each leaf obeys clamp every number raises alike, so they do not show. Assumes nothing: the types of sheets are well formed
 -- (crate sheet).
 use mathlib.Core.Path.{_≡_, refl, sym, ap, ap₂, _∙_, subst}
 use mathlib.Core.Logic.{_⊎_, inl, inr, ⊎-elim}
@@ -21,6 +21,7 @@ use Rattle.datatype.specs.Symbols.{symbolOf}
 use Rattle.datatype.specs.Paths.{leafPath, hasPath}
 use Rattle.datatype.specs.Matches.{Match, matchAt}
 use Rattle.datatype.specs.Matches.Match.{unmatched, matched}
+use Rattle.datatype.specs.Handling.{AllClamp}
 use Rattle.datatype.specs.WellFormed.{WellFormed}
 use Rattle.datatype.proofs.Matches.{match-formed, match-path}
 use Rattle.records.specs.Leaf.{numberIn, converted}
@@ -30,6 +31,7 @@ use Rattle.records.specs.Matched.{MatchedLeaf, matchedNumber, SignificantBit}
 use Rattle.records.proofs.ManyRecords.{joined-alike, same-record}
 use Rattle.runs.specs.Run.{Run, checks, answer, handled}
 use Rattle.runs.specs.Run.Checked.{passed}
+use Rattle.runs.proofs.Exceptions.{clamped-handled}
 use Rattle.runs.proofs.Buffers.{answer-is}
 use Rattle.promises.specs.Promise.{IsDone, SameCall, SameBackground, SameConverted, SameEffect}
 use Rattle.promises.proofs.Promises.{same-answer, room, converted-is, other, other-room, other-is, same-tail}
@@ -125,7 +127,7 @@ valued (enumeration l []) = yes (l, refl)
 valued (enumeration l (s ∷ ss)) = no (λ (e : NoValue (enumeration l (s ∷ ss))). let z : _≡_ {A = ℕ} 0 1 = cc (e .1) in omega arith)
 valued (real l) = no (λ (e : NoValue (real l)). let z : _≡_ {A = ℕ} 0 1 = cc (e .1) in omega arith)
 
-module _ (c : Call) (S D : Datatype) (m : Masked c S D) (r q : Run) (first : Converts c r) (second : Converts c q) (same : SameCall r q) (handling : r .handling ≡ 0)
+module _ (c : Call) (S D : Datatype) (m : Masked c S D) (r q : Run) (first : Converts c r) (second : Converts c q) (same : SameCall r q) (clamps : AllClamp (r .handling) S D)
     (agree : AgreeBesides c S D (r .count) (r .source) (q .source)) (back : SameBackground D r q) where
   fs : WellFormed S
   fs = source-formed c S D m
@@ -173,11 +175,12 @@ module _ (c : Call) (S D : Datatype) (m : Masked c S D) (r q : Run) (first : Con
     answers-alike : answer r ≡ answer q
     answers-alike =
         answer-is r S D e
-        ∙ ap (λ (h : ℕ). handled h S D (r .count) (readings S D (r .source))) handling
+        ∙ clamped-handled S D (r .handling) (r .count) (readings S D (r .source)) clamps
         ∙ ap Done (count-alike S D fs fd path (r .count) (r .source) (q .source) numbers-alike (r .count) (le-refl (r .count)))
         ∙ sym
         (answer-is q S D (other r q same S D e)
-        ∙ ap₂ (λ (h n : ℕ). handled h S D n (readings S D (q .source))) (sym (same .handling) ∙ handling) (sym (same .count)))
+        ∙ ap₂ (λ (h n : ℕ). handled h S D n (readings S D (q .source))) (sym (same .handling)) (sym (same .count))
+        ∙ clamped-handled S D (r .handling) (r .count) (readings S D (q .source)) clamps)
 
     bytes-alike : IsDone r → IsDone q → SameConverted D r q
     bytes-alike d g =
@@ -194,9 +197,9 @@ module _ (c : Call) (S D : Datatype) (m : Masked c S D) (r q : Run) (first : Con
           cleared = λ d. same-tail r q same S D e d (sym (ap numberOf answers-alike) ∙ d);
         }
 
--- with handling 0 every number of a source enum without a value raises alike, so sources that differ in its bits alone have the same effect
-pub without-value : (c : Call) (S D : Datatype) → Masked c S D → (r q : Run) → Converts c r → Converts c q → SameCall r q → r .handling ≡ 0
+-- where each matched leaf obeys clamp every number of a source enum without a value raises alike, so sources that differ in its bits alone have the same effect
+pub without-value : (c : Call) (S D : Datatype) → Masked c S D → (r q : Run) → Converts c r → Converts c q → SameCall r q → AllClamp (r .handling) S D
     → AgreeBesides c S D (r .count) (r .source) (q .source) → SameBackground D r q → SameEffect S D r q
-without-value c S D m r q first second same handling agree back =
-    ⊎-elim (λ n. refused-effect c S D m r q first second same n) (λ e. effect-alike c S D m r q first second same handling agree back e)
+without-value c S D m r q first second same clamps agree back =
+    ⊎-elim (λ n. refused-effect c S D m r q first second same n) (λ e. effect-alike c S D m r q first second same clamps agree back e)
     (refused-or-passes r S D (types c S D m r q first second same))

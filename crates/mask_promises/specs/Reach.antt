@@ -3,7 +3,8 @@ use mathlib.Core.Path.{_≡_}
 use mathlib.Core.List.{List}
 use Prim.Native.Nat.{ℕ}
 use Rattle.datatype.specs.Datatype.{Datatype, size}
-use Rattle.runs.specs.Run.{Form, Run, clamp}
+use Rattle.datatype.specs.Handling.{clamp}
+use Rattle.runs.specs.Run.{Form, Run}
 use Rattle.promises.specs.Promise.{answerFields, IsDone, DoneWithoutException, SameCall, SameBackground, SameConverted, SameEffect}
 use Rattle.masks.specs.Says.{Significant}
 use Rattle.reaches.specs.Call.{Call, maskAfter}
@@ -44,7 +45,7 @@ runOn c form n background table source =
       table = table;
     }
 
--- there are two sources that differ in that bit of that record alone whose runs with handling 0, over one background and with one table, are done and differ in
+-- where no word of the destination makes a matched leaf obey stop, there are two sources that differ in that bit of that record alone whose runs with handling 0, over one background and with one table, are done and differ in
 -- count or in converted bytes
 pub record Shows (c : Call) (S D : Datatype) (form : Form) (n : ℕ) (b : BitOf c S n) : Type 0 where
   pub first : List ℕ
@@ -64,6 +65,6 @@ pub record Shows (c : Call) (S D : Datatype) (form : Form) (n : ℕ) (b : BitOf 
 abbrev pub WithoutValue : (S D : Datatype) {mask : List ℕ} {n : ℕ} → MaskBit mask (size S) n → Type 0
 WithoutValue S D b = (s : Significant S D (b .byte) (b .at)) × NoValue (s .source)
 
--- two sources agree on every other bit of the mask; the numbers of an enum without a value all raise alike with handling 0
+-- two sources agree on every other bit of the mask; the numbers of an enum without a value all raise alike where they are clamped
 abbrev pub AgreeBesides : Call → Datatype → Datatype → ℕ → List ℕ → List ℕ → Type 0
 AgreeBesides c S D n p q = (b : BitOf c S n) → ¬ (WithoutValue S D b) → bitAt b p ≡ bitAt b q

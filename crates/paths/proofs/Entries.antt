@@ -22,7 +22,7 @@ use Rattle.table.specs.Table.{classWord, sizeWord, firstWord, rowsWord, layoutA
 use Rattle.table.specs.Words.{Reads}
 use Rattle.paths.specs.declared.Pair.{Pair}
 use Rattle.paths.specs.declared.Pair.the-variants.{Matched, Unmatched}
-use Rattle.paths.specs.Leaf.{leafOfType, Small, NoneMatched, MatchFound}
+use Rattle.paths.specs.Leaf.{leafOfType, Small, NoneMatched, MatchIn, MatchFound}
 use Rattle.plans.specs.PlanWords.{toByte, fromByte, sourceType, destinationType, entryAt, entriesFrom, entriesAt}
 use Rattle.paths.specs.Plan.{Planned, entryPut, entryOf, stepOf, Added}
 use Rattle.paths.proofs.Shapes.{size-decode}
@@ -196,29 +196,33 @@ leaf-size w t k = go (eqb (classWord w k) 2) (eqb (classWord w k) 5)
 pub step-matched : (wd : List ℕ) {m : Pair} {a s d r : ℕ} → m ≡ Matched a s d → Reads (sizeWord wd d) r → r ≡ stepOf wd m
 step-matched wd e hr = rw e (hr .is)
 
+pub found-in : {ws ts : List ℕ} {i : ℕ} {wd td : List ℕ} {k b : ℕ} {m : Pair} → MatchFound ws ts i wd td k b m → MatchIn ws ts wd td (typeAt ws ts i) (typeAt wd td k) b m
+found-in found = record { is = found .is; small = found .small; behind = found .behind }
+
+pub stepped-in : (ws ts wd td : List ℕ) (S D : Datatype) (b : ℕ) (m : Pair) → WellFormed S → WellFormed D → MatchIn ws ts wd td S D b m → Stepped S D b (stepOf wd m)
+stepped-in ws ts wd td S D b (Matched a s d) f g found = rw (← leaf-size wd td d) (leaf-stepped S D f g b (sym (found .is)))
+stepped-in ws ts wd td S D b (Unmatched n) f g found = none-stepped S D b n (found .behind)
+
 pub stepped : (ws ts : List ℕ) (i : ℕ) (wd td : List ℕ) (k b : ℕ) (m : Pair) → WellFormed (typeAt ws ts i) → WellFormed (typeAt wd td k) → MatchFound ws ts i wd td k b m
     → Stepped (typeAt ws ts i) (typeAt wd td k) b (stepOf wd m)
-stepped ws ts i wd td k b (Matched a s d) f g found = rw (← leaf-size wd td d) (leaf-stepped (typeAt ws ts i) (typeAt wd td k) f g b (sym (found .is)))
-stepped ws ts i wd td k b (Unmatched n) f g found = none-stepped (typeAt ws ts i) (typeAt wd td k) b n (found .behind)
+stepped ws ts i wd td k b m f g found = stepped-in ws ts wd td (typeAt ws ts i) (typeAt wd td k) b m f g (found-in found)
 
 -- ---- the plan
 
 -- the plan p, with n entries so far, has those of the leaves that start below byte b of the destination's `bytes`
-pub record Filled (ws ts : List ℕ) (i : ℕ) (wd td : List ℕ) (k : ℕ) (before : List ℕ) (bytes : ℕ) (p : List ℕ) (n b : ℕ) : Type 0 where
-  pub entries : entriesAt p n ws ts wd td ++ planFrom (typeAt ws ts i) (typeAt wd td k) b (bytes - b) ≡ planOf (typeAt ws ts i) (typeAt wd td k)
+pub record Filled (ws ts wd td : List ℕ) (S D : Datatype) (before : List ℕ) (bytes : ℕ) (p : List ℕ) (n b : ℕ) : Type 0 where
+  pub entries : entriesAt p n ws ts wd td ++ planFrom S D b (bytes - b) ≡ planOf S D
   pub room : length p ≡ length before
   pub space : 2 * bytes ≤ length before
   pub few : n ≤ b
   pub inside : b ≤ bytes
-  pub whole : bytes ≡ size (typeAt wd td k)
+  pub whole : bytes ≡ size D
   pub most : bytes ≤ 4096
 
-module _ (ws ts : List ℕ) (i : ℕ) (wd td : List ℕ) (k : ℕ) {bytes : ℕ} where
-  pub filled-start : (p : List ℕ) → Reads (sizeWord wd k) bytes → WellFormed (typeAt wd td k) → 2 * size (typeAt wd td k) ≤ length p
-      → Filled ws ts i wd td k p bytes p 0 0
+module _ (ws ts wd td : List ℕ) (S D : Datatype) {bytes : ℕ} where
+  pub filled-from : (p : List ℕ) → bytes ≡ size D → WellFormed D → 2 * size D ≤ length p → Filled ws ts wd td S D p bytes p 0 0
   unfolding entriesFrom
-  filled-start p h formed space =
-      let is : bytes ≡ size (typeAt wd td k) = h .is ∙ sym (size-decode 64 wd td k) in
+  filled-from p is formed space =
       record {
         entries = let all : bytes - 0 ≡ bytes = omega arith in rw (all, is) refl;
         room = refl;
@@ -226,13 +230,13 @@ module _ (ws ts : List ℕ) (i : ℕ) (wd td : List ℕ) (k : ℕ) {bytes : ℕ}
         few = omega arith;
         inside = omega arith;
         whole = is;
-        most = omega (arith, size-most (typeAt wd td k) formed);
+        most = omega (arith, size-most D formed);
       }
 
-  module _ {before p : List ℕ} {n b : ℕ} (filled : Filled ws ts i wd td k before bytes p n b) where
-    module _ {m : Pair} {step : ℕ} (fs : WellFormed (typeAt ws ts i)) (fd : WellFormed (typeAt wd td k)) (found : MatchFound ws ts i wd td k b m) (hs : step ≡ stepOf wd m) where
-      on : Stepped (typeAt ws ts i) (typeAt wd td k) b step
-      on = rw hs (stepped ws ts i wd td k b m fs fd found)
+  module _ {before p : List ℕ} {n b : ℕ} (filled : Filled ws ts wd td S D before bytes p n b) where
+    module _ {m : Pair} {step : ℕ} (fs : WellFormed S) (fd : WellFormed D) (found : MatchIn ws ts wd td S D b m) (hs : step ≡ stepOf wd m) where
+      on : Stepped S D b step
+      on = rw hs (stepped-in ws ts wd td S D b m fs fd found)
 
       -- the step goes on, and not past the end
       pub step-some : 1 ≤ step
@@ -241,7 +245,7 @@ module _ (ws ts : List ℕ) (i : ℕ) (wd td : List ℕ) (k : ℕ) {bytes : ℕ}
       pub step-inside : b + step ≤ bytes
       step-inside = omega (arith, on .inside, filled .whole)
 
-      pub filled-next : {q : List ℕ} {r : ℕ} → Added p n b m q r → Filled ws ts i wd td k before bytes q r (b + step)
+      pub filled-next : {q : List ℕ} {r : ℕ} → Added p n b m q r → Filled ws ts wd td S D before bytes q r (b + step)
       filled-next added =
           record {
             entries =
@@ -249,7 +253,7 @@ module _ (ws ts : List ℕ) (i : ℕ) (wd td : List ℕ) (k : ℕ) {bytes : ℕ}
                   added .entries ws ts wd td,
                   found .is,
                   append-assoc,
-                  ← (plan-step (typeAt ws ts i) (typeAt wd td k) b step bytes step-some step-inside (on .none)),
+                  ← (plan-step S D b step bytes step-some step-inside (on .none)),
                 ) (filled .entries);
             room = added .room ∙ filled .room;
             space = filled .space;
@@ -259,13 +263,27 @@ module _ (ws ts : List ℕ) (i : ℕ) (wd td : List ℕ) (k : ℕ) {bytes : ℕ}
             most = filled .most;
           }
 
-    pub filled-done : bytes ≤ b → Planned ws ts i wd td k before p n
+    pub filled-done : bytes ≤ b → Planned ws ts wd td S D before p n
     filled-done h =
         record {
-          entries = sym (append-nil (entriesAt p n ws ts wd td)) ∙ rw (plan-done (typeAt ws ts i) (typeAt wd td k) b bytes h) at (filled .entries);
+          entries = sym (append-nil (entriesAt p n ws ts wd td)) ∙ rw (plan-done S D b bytes h) at (filled .entries);
           room = filled .room;
           few = omega (arith, filled .few, filled .inside, filled .whole);
           most = omega (arith, filled .few, filled .inside, filled .most);
         }
 
-pub ruleset plan-laws = (needs, filled-start, filled-next, filled-done)
+pub filled-start : (ws ts : List ℕ) (i : ℕ) (wd td : List ℕ) (k : ℕ) {bytes : ℕ} (p : List ℕ) → Reads (sizeWord wd k) bytes → WellFormed (typeAt wd td k)
+    → 2 * size (typeAt wd td k) ≤ length p → Filled ws ts wd td (typeAt ws ts i) (typeAt wd td k) p bytes p 0 0
+filled-start ws ts i wd td k p h formed space = filled-from ws ts wd td (typeAt ws ts i) (typeAt wd td k) p (h .is ∙ sym (size-decode 64 wd td k)) formed space
+
+-- two destinations with the same matches have the same plan
+module _ (S D E : Datatype) (same : (b : ℕ) → matchAt S D b ≡ matchAt S E b) where
+  from-same : (b k : ℕ) → planFrom S D b k ≡ planFrom S E b k
+  unfolding planFrom
+  from-same b zero = refl
+  from-same b (suc k) = plan-next S D b k ∙ rw (same b, from-same (suc b) k) (sym (plan-next S E b k))
+
+  pub plan-same : size D ≡ size E → planOf S D ≡ planOf S E
+  plan-same sized = from-same 0 (size D) ∙ ap (planFrom S E 0) sized
+
+pub ruleset plan-laws = (needs, found-in, filled-start, filled-next, filled-done)

@@ -13,6 +13,7 @@ use Rattle.layout.proofs.Edits.{fails, holds}
 use Rattle.datatype.specs.Datatype.{Leaf, Datatype, Members, same as sameDimensions}
 use Rattle.datatype.specs.Datatype.Leaf.{atomic, enumeration, real}
 use Rattle.datatype.specs.Datatype.Datatype.{leaf, compound, array}
+use Rattle.datatype.specs.declared.Word.{Word}
 use Rattle.datatype.specs.Datatype.Members.{empty, member}
 use Rattle.datatype.specs.Paths.{sameClass, leafPath, Lookup, onFound, memberNamed, hasPath, pathsTo}
 use Rattle.datatype.specs.WellFormed.{WellFormed, WellFormedIn}
@@ -131,8 +132,8 @@ path-leaves S (array z ds T) e h k = absurd (k refl)
 -- from compound to compound by the members of one name, from array to array of the same dimensions by the elements
 pub record ByParts (ask : Datatype → Datatype → Bool) (asks : Members → Members → Bool) : Type 0 where
   pub none : (ss : Members) → asks ss empty ≡ true
-  pub more : (ss : Members) (x : List ℕ) (offset : ℕ) (T : Datatype) (ms : Members)
-      → asks ss (member x offset T ms) ≡ onFound (λ o S. ask S T) true (memberNamed x ss) && asks ss ms
+  pub more : (ss : Members) (x : List ℕ) (offset : ℕ) (T : Datatype) (word : Word) (ms : Members)
+      → asks ss (member x offset T word ms) ≡ onFound (λ o S. ask S T) true (memberNamed x ss) && asks ss ms
   pub compounds : (z y : ℕ) (ss ds : Members) → ask (compound z ss) (compound y ds) ≡ asks ss ds
   pub arrays : (z y : ℕ) (es ds : List ℕ) (S T : Datatype) → sameDimensions es ds ≡ true → ask (array z es S) (array y ds T) ≡ ask S T
 
@@ -141,7 +142,7 @@ unfolding hasPath
 path-parts =
     record {
       none = λ ss. refl;
-      more = λ ss x offset T ms. refl;
+      more = λ ss x offset T word ms. refl;
       compounds = λ z y ss ds. refl;
       arrays = λ z y es ds S T e. rw e refl;
     }
@@ -257,7 +258,7 @@ module _ {ask : Datatype → Datatype → Bool} {asks : Members → Members → 
       → asks ss (membersAt D wd td first n) ≡ askNamed ask D ss wd td (first + (n - 1)) && asks ss (membersAt D wd td first (n - 1))
   unfolding membersAt
   lists-more zero h = absurd (not-suc-le-zero h)
-  lists-more (suc n) h = rw sub-one (parts .more ss _ _ _ _)
+  lists-more (suc n) h = rw sub-one (parts .more ss _ _ _ _ _)
 
 -- the members of the destination compound d that are left to look at: n rows from first on
 pub record Remains (ask : Datatype → Datatype → Bool) (asks : Members → Members → Bool) (f : ℕ) (ws ts : List ℕ) (s : ℕ) (wd td : List ℕ) (d first n : ℕ) : Type 0 where

@@ -35,7 +35,13 @@ abbrev pub Behind : Datatype → Datatype → ℕ → Pair → Type 0
 Behind S D b (Matched a s d) = Unit {0}
 Behind S D b (Unmatched n) = NoneMatched S D b n
 
--- r is the match at byte b
+-- r is the match at byte b from S to D
+pub record MatchIn (ws ts wd td : List ℕ) (S D : Datatype) (b : ℕ) (r : Pair) : Type 0 where
+  pub is : matchOf ws ts wd td r ≡ matchAt S D b
+  pub small : Small r
+  pub behind : Behind S D b r
+
+-- r is the match at byte b from type i to type k
 pub record MatchFound (ws ts : List ℕ) (i : ℕ) (wd td : List ℕ) (k b : ℕ) (r : Pair) : Type 0 where
   pub is : matchOf ws ts wd td r ≡ matchAt (typeAt ws ts i) (typeAt wd td k) b
   pub small : Small r

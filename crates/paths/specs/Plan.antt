@@ -3,20 +3,20 @@ use mathlib.Core.Path.{_≡_}
 use mathlib.Core.List.{List, [], _∷_, _++_}
 use Prim.Native.Nat.{ℕ, zero, suc, _+_, _*_, _≤_}
 use lib.ListN.{length, set}
-use Rattle.datatype.specs.Datatype.{size}
+use Rattle.datatype.specs.Datatype.{Datatype, size}
 use Rattle.datatype.specs.Matches.{Match, onMatch}
 use Rattle.records.specs.Plan.{Entry, planOf}
 use Rattle.plans.specs.PlanWords.{entriesAt}
-use Rattle.table.specs.Table.{sizeWord, typeAt}
+use Rattle.table.specs.Table.{sizeWord}
 use Rattle.paths.specs.declared.Pair.{Pair}
 use Rattle.paths.specs.declared.Pair.the-variants.{Matched, Unmatched}
 use Rattle.paths.specs.Leaf.{matchOf}
 
--- the plan p, of r entries, from type i of the table ws to type k of the table wd; it was `before` at first
-pub record Planned (ws ts : List ℕ) (i : ℕ) (wd td : List ℕ) (k : ℕ) (before p : List ℕ) (r : ℕ) : Type 0 where
-  pub entries : entriesAt p r ws ts wd td ≡ planOf (typeAt ws ts i) (typeAt wd td k)
+-- the plan p, of r entries, from S to D, whose leaves are types of the tables ws and wd; it was `before` at first
+pub record Planned (ws ts wd td : List ℕ) (S D : Datatype) (before p : List ℕ) (r : ℕ) : Type 0 where
+  pub entries : entriesAt p r ws ts wd td ≡ planOf S D
   pub room : length p ≡ length before
-  pub few : r ≤ size (typeAt wd td k)
+  pub few : r ≤ size D
   pub most : r ≤ 4096
 
 -- ---- one entry more

@@ -5,7 +5,8 @@ use Prim.Native.Nat.{ℕ, _+_, _*_, _≤_, _<_}
 use native.Mathlib.Nat.{le-refl}
 use native.Mathlib.Omega.{arith}
 use lib.ListN.{length, getD}
-use Rattle.datatype.specs.Datatype.{size}
+use Rattle.datatype.specs.Datatype.{Datatype, size}
+use Rattle.datatype.specs.WellFormed.{WellFormed}
 use Rattle.datatype.proofs.Matches.{size-most}
 use Rattle.table.specs.Table.{typeAt}
 use Rattle.entry_code.specs.Code.{routeIn}
@@ -36,46 +37,49 @@ entry-kept v w k ws ts wd td s d high kept x =
     standing-moved v w k k 512 free (λ q low. kept (k + q) (omega arith)) (λ j from below. kept j from) ws ts wd td s d
     (record { entry = x; bounds = λ some few. (x .span some few .high, le-refl free) }) .entry
 
-module _ (ss ws : List ℕ) (i : ℕ) (ds wd : List ℕ) (k : ℕ) (both : Both ss ws i ds wd k) (before plan : List ℕ) (n : ℕ) (planned : Planned ws ss i wd ds k before plan n) where
-  all-sound : AllSound (size (typeAt ws ss i)) (size (typeAt wd ds k)) (entriesAt plan n ws ss wd ds)
-  all-sound = rw (planned .entries) (plan-sound (typeAt ws ss i) (typeAt wd ds k) (both .source) (both .destination))
+module _ (ss ws : List ℕ) (i : ℕ) (ds wd : List ℕ) (k : ℕ) (both : Both ss ws i ds wd k) (E : Datatype) (formed : WellFormed E) (sized : size E ≡ size (typeAt wd ds k))
+    (before plan : List ℕ) (n : ℕ) (planned : Planned ws ss wd ds (typeAt ws ss i) E before plan n) where
+  all-sound : AllSound (size (typeAt ws ss i)) (size E) (entriesAt plan n ws ss wd ds)
+  all-sound = rw (planned .entries) (plan-sound (typeAt ws ss i) E (both .source) formed)
+
+  few : n ≤ size (typeAt wd ds k)
+  few = omega (arith, planned .few)
 
   pairs-formed : (e : ℕ) → e < n → PairFormed ws ss wd ds (sourceType plan e) (destinationType plan e)
   pairs-formed e h =
-      let sound : Sound (size (typeAt ws ss i)) (size (typeAt wd ds k)) (entryAt plan ws ss wd ds e) =
-      sound-at plan ws ss wd ds (size (typeAt ws ss i)) (size (typeAt wd ds k)) n 0 e all-sound (omega arith) (omega arith) in
+      let sound : Sound (size (typeAt ws ss i)) (size E) (entryAt plan ws ss wd ds e) =
+      sound-at plan ws ss wd ds (size (typeAt ws ss i)) (size E) n 0 e all-sound (omega arith) (omega arith) in
       record { source = sound .source; destination = sound .destination; sourceRows = both .sourceRows (sourceType plan e); destinationRows = both .destinationRows (destinationType plan e) }
 
   module _ (words : List ℕ) (room : Room ds wd k (length before) (length words)) where
     pub entries-asked : (n ≤ 4096) × (2 * n ≤ length plan) × (wordsPlace n ≤ length words) × (length words ≤ 65536)
         × ((e : ℕ) → e < n → PairFormed ws ss wd ds (sourceType plan e) (destinationType plan e))
-    entries-asked =
-        (planned .most, omega (arith, room .for-entries, planned .few, planned .room), omega (arith, room .for-words, planned .few), room .most, pairs-formed)
+    entries-asked = (planned .most, omega (arith, room .for-entries, few, planned .room), omega (arith, room .for-words, few), room .most, pairs-formed)
 
     module _ (mid : List ℕ) (entries : EntriesPut words plan n ws ss wd ds mid) where
       pub names-asked : (n ≤ 4096) × (wordsPlace n ≤ length mid)
-      names-asked = (planned .most, omega (arith, room .for-words, planned .few, entries .long))
+      names-asked = (planned .most, omega (arith, room .for-words, few, entries .long))
 
-      pub plan-made : (after : List ℕ) → NamesPut mid n ws ss wd ds after → Made ss ws i ds wd k plan n after
+      pub plan-made : (after : List ℕ) → NamesPut mid n ws ss wd ds after → Made ss ws i ds wd E plan n after
       plan-made after names =
           record {
             entries = planned .entries;
-            room = omega (arith, room .for-entries, planned .few, planned .room);
+            room = omega (arith, room .for-entries, few, planned .room);
             most = planned .most;
-            long = omega (arith, room .for-words, planned .few, entries .long, names .long);
+            long = omega (arith, room .for-words, few, entries .long, names .long);
             entry = λ e h. entry-kept after mid (wordsPlace e) ws ss wd ds (sourceType plan e) (destinationType plan e) (omega arith) (names .above) (entries .each e h);
             names = names .names;
           }
 
 -- what a plan that was made is to the loops over records
-unfoldable pub job : {ss ws : List ℕ} {i : ℕ} {ds wd : List ℕ} {k : ℕ} {plan : List ℕ} {n : ℕ} {words : List ℕ} → Both ss ws i ds wd k → Made ss ws i ds wd k plan n words
-    → {s d : ℕ} → s ≡ size (typeAt ws ss i) → d ≡ size (typeAt wd ds k) → Job s d plan n ws wd words
-job {ss} {ws} {i} {ds} {wd} {k} {plan} both made source destination =
+unfoldable pub job : {ss ws : List ℕ} {i : ℕ} {ds wd : List ℕ} {k : ℕ} {E : Datatype} {plan : List ℕ} {n : ℕ} {words : List ℕ} → Both ss ws i ds wd k → WellFormed E
+    → Made ss ws i ds wd E plan n words → {s d : ℕ} → s ≡ size (typeAt ws ss i) → d ≡ size E → Job s d plan n ws wd words
+job {ss} {ws} {i} {ds} {wd} {k} {E} {plan} both formed made source destination =
     record {
       source = typeAt ws ss i;
-      destination = typeAt wd ds k;
+      destination = E;
       sourceFormed = both .source;
-      destinationFormed = both .destination;
+      destinationFormed = formed;
       sourceSize = source;
       destinationSize = destination;
       sourceText = ss;

@@ -3,7 +3,7 @@ use mathlib.Core.Path.{_≡_}
 use mathlib.Core.List.{List}
 use Prim.Native.Nat.{ℕ, _*_, _≤_, _<_}
 use lib.ListN.{length, getD}
-use Rattle.datatype.specs.Datatype.{size}
+use Rattle.datatype.specs.Datatype.{Datatype, size}
 use Rattle.table.specs.Table.{typeAt}
 use Rattle.entry_code.specs.Code.{routeIn}
 use Rattle.records.specs.Plan.{planOf}
@@ -15,9 +15,9 @@ pub record Room (ds wd : List ℕ) (k plan words : ℕ) : Type 0 where
   pub for-words : wordsPlace (size (typeAt wd ds k)) ≤ words
   pub most : words ≤ 65536
 
--- the plan, of n entries, and its words
-pub record Made (ss ws : List ℕ) (i : ℕ) (ds wd : List ℕ) (k : ℕ) (plan : List ℕ) (n : ℕ) (words : List ℕ) : Type 0 where
-  pub entries : entriesAt plan n ws ss wd ds ≡ planOf (typeAt ws ss i) (typeAt wd ds k)
+-- the plan to E, of n entries, and its words; the leaves of E are types of the table wd
+pub record Made (ss ws : List ℕ) (i : ℕ) (ds wd : List ℕ) (E : Datatype) (plan : List ℕ) (n : ℕ) (words : List ℕ) : Type 0 where
+  pub entries : entriesAt plan n ws ss wd ds ≡ planOf (typeAt ws ss i) E
   pub room : 2 * n ≤ length plan
   pub most : n ≤ 4096
   pub long : wordsPlace n ≤ length words

@@ -2,12 +2,16 @@
 ghost use mathlib.Core.Path.{_≡_};
 ghost use Prim.Native.Nat.{_+_, _*_, _≤_, _<_};
 ghost use lib.ListN.{length};
-ghost use Rattle.datatype.specs.Datatype.{size};
+ghost use Rattle.datatype.specs.Datatype.{Datatype, size};
 ghost use Rattle.datatype.specs.WellFormed.{WellFormed};
 ghost use Rattle.table.specs.Table.{typeAt};
+ghost use Rattle.obeying.specs.Obeying.{StopsOf};
 ghost use Rattle.paths.specs.Leaf.{Small};
 ghost use Rattle.paths.specs.Plan.{Added, Planned, entryPut, stepOf};
+ghost use Rattle.planning.specs.StopMatch.{StopMatch};
+use datatype::CLAMP;
 use matching::match_at;
+use obeying::handling_at;
 use paths::Pair;
 use plans::BYTES;
 use plans::TYPES;
@@ -75,7 +79,7 @@ pub fn plan(
     plan: &mut [u32],
 ) -> usize
     requires { ⌜ WellFormed (typeAt (now «source_half») (now «source_sheet») «source_type») × WellFormed (typeAt (now «destination_half») (now «destination_sheet») «destination_type») × (2 * size (typeAt (now «destination_half») (now «destination_sheet») «destination_type») ≤ length (now plan)) ⌝ }
-    ensures { λ r. ⌜ Planned (now («source_half» .entry)) (now («source_sheet» .entry)) «source_type» (now («destination_half» .entry)) (now («destination_sheet» .entry)) «destination_type» (now (plan .entry)) (now (plan .exit)) r ⌝ }
+    ensures { λ r. ⌜ Planned (now («source_half» .entry)) (now («source_sheet» .entry)) (now («destination_half» .entry)) (now («destination_sheet» .entry)) (typeAt (now («source_half» .entry)) (now («source_sheet» .entry)) «source_type») (typeAt (now («destination_half» .entry)) (now («destination_sheet» .entry)) «destination_type») (now (plan .entry)) (now (plan .exit)) r ⌝ }
 {
     let bytes = type_word(destination_half, destination_type, SIZE);
     let mut entries: usize = 0;
@@ -92,6 +96,62 @@ pub fn plan(
         );
         entries = add_entry(plan, entries, destination_byte, m);
         destination_byte += step_of(destination_half, m);
+    }
+    entries
+}
+
+// The match at a byte where its leaf obeys stop; where it obeys clamp, no match, for as many bytes.
+fn stop_match(
+    destination_half: &[u32],
+    destination_type: usize,
+    destination_byte: usize,
+    handling: u32,
+    m: Pair,
+) -> Pair
+    ensures { λ r. ⌜ StopMatch (now («destination_half» .entry)) «destination_type» «destination_byte» handling m r ⌝ }
+{
+    let obeyed = handling_at(
+        destination_half,
+        destination_type,
+        destination_byte,
+        handling,
+    );
+    if obeyed == CLAMP {
+        return Pair::Unmatched(step_of(destination_half, m));
+    }
+    m
+}
+
+// The matched leaves that obey stop, in a call with this handling; how many there are.
+pub fn stop_plan(
+    source_half: &[u32],
+    source_sheet: &[u8],
+    source_type: usize,
+    destination_half: &[u32],
+    destination_sheet: &[u8],
+    destination_type: usize,
+    handling: u32,
+    plan: &mut [u32],
+) -> usize
+    requires { ⌜ WellFormed (typeAt (now «source_half») (now «source_sheet») «source_type») × WellFormed (typeAt (now «destination_half») (now «destination_sheet») «destination_type») × (2 * size (typeAt (now «destination_half») (now «destination_sheet») «destination_type») ≤ length (now plan)) ⌝ }
+    ensures { λ r. ⌜ ((E : Datatype) → StopsOf handling (typeAt (now («destination_half» .entry)) (now («destination_sheet» .entry)) «destination_type») E → Planned (now («source_half» .entry)) (now («source_sheet» .entry)) (now («destination_half» .entry)) (now («destination_sheet» .entry)) (typeAt (now («source_half» .entry)) (now («source_sheet» .entry)) «source_type») E (now (plan .entry)) (now (plan .exit)) r) ⌝ }
+{
+    let bytes = type_word(destination_half, destination_type, SIZE);
+    let mut entries: usize = 0;
+    let mut byte: usize = 0;
+    while byte < bytes {
+        let found = match_at(
+            source_half,
+            source_sheet,
+            source_type,
+            destination_half,
+            destination_sheet,
+            destination_type,
+            byte,
+        );
+        let m = stop_match(destination_half, destination_type, byte, handling, found);
+        entries = add_entry(plan, entries, byte, m);
+        byte += step_of(destination_half, m);
     }
     entries
 }

@@ -35,16 +35,16 @@ use Rattle.records.specs.Matched.{MatchedLeaf}
 use Rattle.records.proofs.OneRecord.{none-raised, reading-at}
 use Rattle.records.proofs.ManyRecords.{none-in}
 use Rattle.runs.specs.Run.{Run, hasRoom, typeChecks, checksOf, onChecked, stopFrom, handled, answerFor, answer}
-use Rattle.runs.specs.FirstException.{FirstException}
+use Rattle.runs.specs.FirstException.{NoneStops, FirstException}
 use Rattle.runs.specs.Refusals.{First, onlyCount, onlyPlace}
 use Rattle.runs.specs.Refusals.First.{here}
-use Rattle.runs.proofs.Checks.{stop-is}
-use Rattle.runs.proofs.Exceptions.{handled-quiet, handled-first, handled-number}
+use Rattle.runs.proofs.Checks.{done-is, stop-is}
+use Rattle.runs.proofs.Exceptions.{handled-count, handled-clamped, handled-first, handled-number}
 use Rattle.runs.proofs.Refusals.{not-faulty, of-types, by-types, same-types, one-line, too-short, not-too-short, RefusalTable, None, Right, passed-by, by-test, by-sheet, right-row, right-first, right-done, right-none}
 use Rattle.runs.proofs.Refusals.Right.{none-given, first-given}
 use Rattle.promises.specs.Promise.{answerNumber, answerFields, becomes}
 use Rattle.promises.specs.Demand1.{Exception, Row, number, Given, order, Fields, DoneFields, Demand1}
-use Rattle.promises.proofs.Stops.{kind-of, first-leaf, first-raises}
+use Rattle.promises.proofs.Stops.{kind-of, first-leaf, first-obeys, first-raises}
 use Rattle.promises.specs.Demand1.Row.{HANDLING, TABLE, SOURCE, DESTINATION, PATH, SYMBOLS, COUNT, ROOM, STOP}
 
 -- ---- handling
@@ -60,48 +60,39 @@ not-over-one (suc h) l n = n (inr (omega arith))
 -- ---- exceptions
 
 -- the first exception is one
-first-exists : (r : Run) (S D : Datatype) {i b k : ℕ} {g : answer.Given} → FirstException S D (r .count) (readings S D (r .source)) i b k g → Exception r S D
+first-exists : (r : Run) (S D : Datatype) {i b k : ℕ} {g : answer.Given} → FirstException (r .handling) S D (r .count) (readings S D (r .source)) i b k g → Exception r S D
 first-exists r S D e =
-    record { leaf = first-leaf S D (r .count) (r .source) e; raises = first-raises S D (r .count) (r .source) e }
+    record {
+      leaf = first-leaf S D (r .count) (r .source) e;
+      obeys = first-obeys S D (r .count) (r .source) e;
+      raises = first-raises S D (r .count) (r .source) e;
+    }
 
--- and where the count is 0 there is none
-none-exists : (r : Run) (S D : Datatype) → WellFormed D → exceptions S D (r .count) (readings S D (r .source)) ≡ 0 → ¬ (Exception r S D)
-none-exists r S D g e x =
+-- and where no leaf that obeys stop raises, there is none
+none-exists : (r : Run) (S D : Datatype) → WellFormed D → ((i : ℕ) → i < r .count → NoneStops (r .handling) S D (readings S D (r .source)) i (size D))
+    → ¬ (Exception r S D)
+none-exists r S D g quietly x =
     let m : MatchedLeaf S D (r .count) = x .leaf in
     let quiet : kindAt S D (readings S D (r .source) (m .index)) (m .to) ≡ 0 =
-    none-raised S D (readings S D (r .source) (m .index)) (size D) (none-in S D (r .count) (readings S D (r .source)) e (m .index) (m .in-records)) (m .to)
-    (way-starts (match-way D S g (m .match)) g) in
+    quietly (m .index) (m .in-records) (m .to) (way-starts (match-way D S g (m .match)) g) (x .obeys) in
     omega (arith, x .raises, kind-of m (r .source), quiet)
 
-module _ {S D : Datatype} {n : ℕ} {fs : Readings} where
-  not-earlier : {i b k j c l : ℕ} {g h : answer.Given} → FirstException S D n fs i b k g → FirstException S D n fs j c l h → ¬ (i < j)
-  not-earlier {i} {b} e f h =
-      omega (arith, e .kind, e .raises, none-raised S D (fs i) (size D) (f .no-earlier-record i h) b (e .in-bytes))
+module _ {h : ℕ} {S D : Datatype} {n : ℕ} {fs : Readings} where
+  not-earlier : {i b k j c l : ℕ} {g u : answer.Given} → FirstException h S D n fs i b k g → FirstException h S D n fs j c l u → ¬ (i < j)
+  not-earlier {i} {b} e f t = omega (arith, e .kind, e .raises, f .no-earlier-record i t b (e .in-bytes) (e .obeys))
 
-  not-lower : {i b k c l : ℕ} {g h : answer.Given} → FirstException S D n fs i b k g → FirstException S D n fs i c l h → ¬ (b < c)
-  not-lower {b = b} e f h = omega (arith, e .kind, e .raises, f .no-lower-byte b h)
+  not-lower : {i b k c l : ℕ} {g u : answer.Given} → FirstException h S D n fs i b k g → FirstException h S D n fs i c l u → ¬ (b < c)
+  not-lower {b = b} e f t = omega (arith, e .kind, e .raises, f .no-lower-byte b t (e .obeys))
 
   -- there is one first exception
-  one-first : {i b k j c l : ℕ} {u v : answer.Given} → FirstException S D n fs i b k u → FirstException S D n fs j c l v → onlyPlace i b k u ≡ onlyPlace j c l v
+  one-first : {i b k j c l : ℕ} {u v : answer.Given} → FirstException h S D n fs i b k u → FirstException h S D n fs j c l v → onlyPlace i b k u ≡ onlyPlace j c l v
   one-first {i} {b} {k} {j} {c} {l} {u} {v} e f =
       let p : i ≡ j = omega (arith, not-earlier e f, not-earlier f e) in
-      let g : FirstException S D n fs i c l v = rw p f in
+      let g : FirstException h S D n fs i c l v = rw p f in
       let q : b ≡ c = omega (arith, not-lower e g, not-lower g e) in
       let t : k ≡ l = sym (e .kind) ∙ ap (kindAt S D (fs i)) q ∙ g .kind in
       let w : u ≡ v = sym (e .given) ∙ ap (givenAt S D (fs i)) q ∙ g .given in
       rw (p, q, t, w)
-
--- done under handling 1 is done with count 0
-stop-done : (S D : Datatype) (fs : Readings) (i k : ℕ) → numberOf (stopFrom S D fs i k) ≡ 0 → stopFrom S D fs i k ≡ Done 0
-unfolding stopFrom
-stop-done S D fs i zero e = refl
-stop-done S D fs i (suc k) e = go (firstRaising S D (fs i) 0 (size D)) e (stop-done S D fs (suc i) k)
-  where
-    go : (o : Option ℕ) → numberOf (onSome (λ b. Stop i b (kindAt S D (fs i) b) (givenAt S D (fs i) b)) (stopFrom S D fs (suc i) k) o) ≡ 0
-        → (numberOf (stopFrom S D fs (suc i) k) ≡ 0 → stopFrom S D fs (suc i) k ≡ Done 0)
-        → onSome (λ b. Stop i b (kindAt S D (fs i) b) (givenAt S D (fs i) b)) (stopFrom S D fs (suc i) k) o ≡ Done 0
-    go none f next = next f
-    go (some b) f next = absurd (omega (arith, f))
 
 -- ---- what the table says of an answer, row by row
 
@@ -110,25 +101,27 @@ rows r = record { Row = Row; number = number; Given = Given r; Fields = Fields r
 
 -- behind both sheets
 module _ (r : Run) (S D : Datatype) (s : sheetOf (r .sourceSheet) ≡ ofType S) (d : sheetOf (r .destinationSheet) ≡ ofType D) where
-  stop-right : (h : ℕ) → r .handling ≡ h → h ≤ 1 → Right (rows r) (STOP ∷ []) (handled h S D (r .count) (readings S D (r .source)))
-  stop-right zero e l = passed-by (rows r) STOP (λ g. omega (arith, e, g .0)) (none-given tt refl (of-types (r .sourceSheet) (r .destinationSheet) S D s d refl))
-  stop-right (suc h) e l =
+  stop-right : r .handling ≤ 1 → Right (rows r) (STOP ∷ []) (handled (r .handling) S D (r .count) (readings S D (r .source)))
+  stop-right l =
+      let h : ℕ = r .handling in
       let fs : Readings = readings S D (r .source) in
-      let a : Answer = handled (suc h) S D (r .count) (readings S D (r .source)) in
+      let a : Answer = handled (r .handling) S D (r .count) (readings S D (r .source)) in
       ⊎-elim
       (λ (z : numberOf a ≡ 0).
-      let done : a ≡ Done 0 = stop-done S D fs 0 (r .count) z in
-      let quiet : exceptions S D (r .count) fs ≡ 0 = handled-quiet S D (suc h) (r .count) fs done in
-      passed-by (rows r) STOP (λ g. none-exists r S D (read-well-formed (r .destinationSheet) D d) quiet (by-types (r .sourceSheet) (r .destinationSheet) S D s d (g .1)))
-      (none-given tt z (of-types (r .sourceSheet) (r .destinationSheet) S D s d (ap valuesOf done ∙ ap onlyCount (sym quiet)))))
+      let done : a ≡ Done (valuesOf a .count) = done-is a z in
+      passed-by (rows r) STOP
+      (λ g. none-exists r S D (read-well-formed (r .destinationSheet) D d) (handled-clamped S D h (r .count) fs (valuesOf a .count) done)
+      (by-types (r .sourceSheet) (r .destinationSheet) S D s d g))
+      (none-given tt z
+      (of-types (r .sourceSheet) (r .destinationSheet) S D s d (ap valuesOf done ∙ ap onlyCount (handled-count S D h (r .count) fs (valuesOf a .count) done)))))
       (λ (z : numberOf a ≡ 8).
       let v : Values = valuesOf a in
       let g : answer.Given = stop-is a z .0 in
       let is : a ≡ Stop (v .«record») (v .at) (v .kind) g = stop-is a z .1 in
-      let f = handled-first S D (suc h) (r .count) fs (v .«record») (v .at) (v .kind) g l is in
-      first-given STOP (here (e ∙ f .0, of-types (r .sourceSheet) (r .destinationSheet) S D s d (first-exists r S D (f .1)))) z
-      (of-types (r .sourceSheet) (r .destinationSheet) S D s d (v .«record», v .at, v .kind, g, f .1, ap valuesOf is)))
-      (handled-number S D (suc h) (r .count) fs)
+      let f = handled-first S D h (r .count) fs (v .«record») (v .at) (v .kind) g l is in
+      first-given STOP (here (of-types (r .sourceSheet) (r .destinationSheet) S D s d (first-exists r S D f))) z
+      (of-types (r .sourceSheet) (r .destinationSheet) S D s d (v .«record», v .at, v .kind, g, f, ap valuesOf is)))
+      (handled-number S D h (r .count) fs)
 
   types-right : r .handling ≤ 1
       → Right (rows r) (PATH ∷ SYMBOLS ∷ COUNT ∷ ROOM ∷ STOP ∷ []) (onChecked (answerFor r) (λ refusal. refusal) (typeChecks (r .form) (r .count) (length (r .source)) (length (r .background)) S D))
@@ -149,7 +142,7 @@ module _ (r : Run) (S D : Datatype) (s : sheetOf (r .sourceSheet) ≡ ofType S) 
       λ e. by-test (rows r) ROOM (answerFor r) (hasRoom (r .form) (r .count) (size S) (size D) x y) Room _ refl refl
       (λ e. of-types (r .sourceSheet) (r .destinationSheet) S D s d (too-short (r .form) (r .count) (size S) (size D) x y e))
       (λ e g. not-too-short (r .form) (r .count) (size S) (size D) x y e (by-types (r .sourceSheet) (r .destinationSheet) S D s d g))
-      λ e. stop-right (r .handling) refl l
+      λ e. stop-right l
 
 right : (r : Run) → Right (rows r) order (answer r)
 unfolding answer checksOf

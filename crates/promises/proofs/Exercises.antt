@@ -9,7 +9,7 @@ use Prim.Native.String.{String}
 use lib.IntN.{ℤ, pos, negsuc}
 use lib.ListN.{replicate}
 use Rattle.answer.specs.declared.Answer.{Answer}
-use Rattle.answer.specs.declared.Answer.the-variants.{Done, Stop, Range, Symbols}
+use Rattle.answer.specs.declared.Answer.the-variants.{Done, Destination, Stop, Range, Symbols}
 use Rattle.answer.specs.declared.Given.the-variants.{Whole, Real}
 use Rattle.answer.specs.Answer.{numberOf, valuesOf}
 use Rattle.bits.specs.declared.Order.{Order}
@@ -31,6 +31,8 @@ use Rattle.datatype.specs.Symbols.{symbolOf, numberOf as numberNamed}
 use Rattle.datatype.specs.Leaves as leaves
 use Rattle.datatype.specs.Paths as paths
 use Rattle.datatype.specs.Matches as matches
+use Rattle.datatype.specs.Handling as handling
+use Rattle.datatype.specs.Handling.{clamp, stop}
 use Rattle.datatype.specs.SymbolSets as symbols
 use Rattle.text.specs.Text as text
 use Rattle.text.specs.Text.{bytes}
@@ -40,7 +42,7 @@ use Rattle.sheet.specs.Sheet as sheet
 use Rattle.records.specs.Record as one
 use Rattle.records.specs.Records as many
 use Rattle.runs.specs.Run as runs
-use Rattle.runs.specs.Run.{Run, copyingRun, inPlaceRun, clamp, plain, answer, after}
+use Rattle.runs.specs.Run.{Run, copyingRun, inPlaceRun, plain, answer, after}
 use Rattle.leaf_lines.specs.LeafList as lists
 use Rattle.leaves.specs.Call as listing
 use Rattle.leaves.specs.Call.{answerOf, listAfter}
@@ -212,6 +214,57 @@ rows =
       exercise = run (copyingRun (bytes realBE) (bytes unsignedByte) 1 1 (0x40 ∷ 4 ∷ 0 ∷ 0 ∷ 0 ∷ 0 ∷ 0 ∷ 0 ∷ []) (0x55 ∷ []) words);
       solution = answered (Stop 0 0 5 (Real 0x4004000000000000)) (0x55 ∷ []);
     }
+    -- a leaf that obeys stop stops a call with handling 0, and is named though one that clamps raised before it
+    ∷ record {
+      exercise = run (copyingRun (bytes "int\t1\tLE\t0\t8\tzero\tzero\tunsigned\ncomp\t2\nmember\ta\t0\t0\nmember\tb\t1\t0\n") (bytes "int\t1\tLE\t0\t8\tzero\tzero\tsigned\ncomp\t2\nmember\ta\t0\t0\nmember\tb\t1\t0\tstop\n") 1 clamp (0xff ∷ 0xfe ∷ []) (0x55 ∷ 0x66 ∷ []) words);
+      solution = answered (Stop 0 1 1 (Whole false 254)) (0x55 ∷ 0x66 ∷ []);
+    }
+    -- where it does not raise, the count takes the clamped ones
+    ∷ record {
+      exercise = run (copyingRun (bytes "int\t1\tLE\t0\t8\tzero\tzero\tunsigned\ncomp\t2\nmember\ta\t0\t0\nmember\tb\t1\t0\n") (bytes "int\t1\tLE\t0\t8\tzero\tzero\tsigned\ncomp\t2\nmember\ta\t0\t0\nmember\tb\t1\t0\tstop\n") 1 clamp (0xff ∷ 0x01 ∷ []) (0x55 ∷ 0x66 ∷ []) words);
+      solution = answered (Done 1) (0x7f ∷ 0x01 ∷ []);
+    }
+    -- and of a call with handling 1, which the plain forms have, those whose member says clamp
+    ∷ record {
+      exercise = run (copyingRun (bytes "int\t1\tLE\t0\t8\tzero\tzero\tunsigned\ncomp\t2\nmember\ta\t0\t0\nmember\tb\t1\t0\n") (bytes "int\t1\tLE\t0\t8\tzero\tzero\tsigned\ncomp\t2\nmember\ta\t0\t0\tclamp\nmember\tb\t1\t0\n") 1 plain (0xff ∷ 0x01 ∷ []) (0x55 ∷ 0x66 ∷ []) words);
+      solution = answered (Done 1) (0x7f ∷ 0x01 ∷ []);
+    }
+    ∷ record {
+      exercise = run (copyingRun (bytes "int\t1\tLE\t0\t8\tzero\tzero\tunsigned\ncomp\t2\nmember\ta\t0\t0\nmember\tb\t1\t0\n") (bytes "int\t1\tLE\t0\t8\tzero\tzero\tsigned\ncomp\t2\nmember\ta\t0\t0\tclamp\nmember\tb\t1\t0\n") 1 plain (0xff ∷ 0xfe ∷ []) (0x55 ∷ 0x66 ∷ []) words);
+      solution = answered (Stop 0 1 1 (Whole false 254)) (0x55 ∷ 0x66 ∷ []);
+    }
+    -- the words of the source sheet are without effect
+    ∷ record {
+      exercise = run (copyingRun (bytes "int\t1\tLE\t0\t8\tzero\tzero\tunsigned\ncomp\t2\nmember\ta\t0\t0\tstop\nmember\tb\t1\t0\tclamp\n") (bytes "int\t1\tLE\t0\t8\tzero\tzero\tsigned\ncomp\t2\nmember\ta\t0\t0\nmember\tb\t1\t0\n") 1 clamp (0xff ∷ 0x01 ∷ []) (0x55 ∷ 0x66 ∷ []) words);
+      solution = answered (Done 1) (0x7f ∷ 0x01 ∷ []);
+    }
+    ∷ record {
+      exercise = run (copyingRun (bytes "int\t1\tLE\t0\t8\tzero\tzero\tunsigned\ncomp\t2\nmember\ta\t0\t0\tstop\nmember\tb\t1\t0\tclamp\n") (bytes "int\t1\tLE\t0\t8\tzero\tzero\tsigned\ncomp\t2\nmember\ta\t0\t0\nmember\tb\t1\t0\n") 1 plain (0x01 ∷ 0xfe ∷ []) (0x55 ∷ 0x66 ∷ []) words);
+      solution = answered (Stop 0 1 1 (Whole false 254)) (0x55 ∷ 0x66 ∷ []);
+    }
+    -- the innermost member that has a word is obeyed, in each element of an array
+    ∷ record {
+      exercise = run (copyingRun (bytes "int\t1\tLE\t0\t8\tzero\tzero\tunsigned\ncomp\t2\nmember\ta\t0\t0\nmember\tb\t1\t0\narray\t1\t2\ncomp\t4\nmember\tlap\t0\t2\n") (bytes "int\t1\tLE\t0\t8\tzero\tzero\tsigned\ncomp\t2\nmember\ta\t0\t0\tclamp\nmember\tb\t1\t0\narray\t1\t2\ncomp\t4\nmember\tlap\t0\t2\tstop\n") 1 clamp (0xff ∷ 0x01 ∷ 0xff ∷ 0x02 ∷ []) (0x01 ∷ 0x02 ∷ 0x03 ∷ 0x04 ∷ []) words);
+      solution = answered (Done 2) (0x7f ∷ 0x01 ∷ 0x7f ∷ 0x02 ∷ []);
+    }
+    ∷ record {
+      exercise = run (copyingRun (bytes "int\t1\tLE\t0\t8\tzero\tzero\tunsigned\ncomp\t2\nmember\ta\t0\t0\nmember\tb\t1\t0\narray\t1\t2\ncomp\t4\nmember\tlap\t0\t2\n") (bytes "int\t1\tLE\t0\t8\tzero\tzero\tsigned\ncomp\t2\nmember\ta\t0\t0\tclamp\nmember\tb\t1\t0\narray\t1\t2\ncomp\t4\nmember\tlap\t0\t2\tstop\n") 1 clamp (0xff ∷ 0x01 ∷ 0xff ∷ 0xfe ∷ []) (0x01 ∷ 0x02 ∷ 0x03 ∷ 0x04 ∷ []) words);
+      solution = answered (Stop 0 3 1 (Whole false 254)) (0x01 ∷ 0x02 ∷ 0x03 ∷ 0x04 ∷ []);
+    }
+    ∷ record {
+      exercise = run (copyingRun (bytes "int\t1\tLE\t0\t8\tzero\tzero\tunsigned\ncomp\t2\nmember\ta\t0\t0\nmember\tb\t1\t0\narray\t1\t2\ncomp\t4\nmember\tlap\t0\t2\n") (bytes "int\t1\tLE\t0\t8\tzero\tzero\tsigned\ncomp\t2\nmember\ta\t0\t0\tstop\nmember\tb\t1\t0\narray\t1\t2\ncomp\t4\nmember\tlap\t0\t2\tclamp\n") 1 plain (0x01 ∷ 0xfe ∷ 0xff ∷ 0x02 ∷ []) (0x01 ∷ 0x02 ∷ 0x03 ∷ 0x04 ∷ []) words);
+      solution = answered (Stop 0 2 1 (Whole false 255)) (0x01 ∷ 0x02 ∷ 0x03 ∷ 0x04 ∷ []);
+    }
+    -- a member that is not matched raises nothing, whatever its word
+    ∷ record {
+      exercise = run (copyingRun (bytes "int\t1\tLE\t0\t8\tzero\tzero\tunsigned\ncomp\t2\nmember\ta\t0\t0\nmember\tb\t1\t0\n") (bytes "int\t1\tLE\t0\t8\tzero\tzero\tsigned\ncomp\t2\nmember\ta\t0\t0\nmember\tlid\t1\t0\tstop\n") 1 clamp (0xff ∷ 0xfe ∷ []) (0x55 ∷ 0x66 ∷ []) words);
+      solution = answered (Done 1) (0x7f ∷ 0x66 ∷ []);
+    }
+    -- another word is a fault of its line
+    ∷ record {
+      exercise = run (copyingRun (bytes "int\t1\tLE\t0\t8\tzero\tzero\tunsigned\ncomp\t2\nmember\ta\t0\t0\nmember\tb\t1\t0\n") (bytes "int\t1\tLE\t0\t8\tzero\tzero\tsigned\ncomp\t2\nmember\ta\t0\t0\tstops\n") 1 clamp (0xff ∷ 0xfe ∷ []) (0x55 ∷ 0x66 ∷ []) words);
+      solution = answered (Destination 3) (0x55 ∷ 0x66 ∷ []);
+    }
     -- a symbol more in the destination: the run is done, and its way back is refused before any record is looked at, or with none to look at
     ∷ record { exercise = run there; solution = answered (Done 0) (0 ∷ []) }
     ∷ record { exercise = run back; solution = answered Symbols (0x55 ∷ []) }
@@ -239,5 +292,5 @@ rows =
     ∷ []
 
 solved : map (λ (r : Row). solve (r .exercise)) rows ≡ map (λ (r : Row). r .solution) rows
-unfolding rows solve setters.setSize setters.setField same symbolOf numberNamed leaves.within leaves.leafAt paths.memberNamed paths.hasPath matches.matchAt symbols.hasSymbol symbols.allStandIn symbols.keepsSymbols text.split fields.digits fields.decimal fields.number fields.enumNumber fields.decimalIn fields.eachPrintable fields.name line.column line.order line.pad line.sign line.layoutColumns line.intLine line.bitsLine line.enumLineOf line.valueLineOf line.compoundLineOf line.memberLineOf line.numbers line.arrayLineOf line.realLineOf line.lineKind line.lineOf sheet.typeNumbered sheet.isApart sheet.judge sheet.linesFrom sheet.outcomeOf sheet.sheetOf worths.worth nearest.highest nearest.magnitudeBits reals.intToReal reals.realToIntOf one.reading one.withLeaf one.withLeavesBelow one.kindAt one.givenAt one.raisedBelow one.firstRaising many.joined many.exceptions runs.checksOf runs.stopFrom runs.answer runs.after lists.leafLines lists.leafList listing.answerOf listing.listAfter
+unfolding rows solve setters.setSize setters.setField same symbolOf numberNamed leaves.within leaves.leafAt paths.memberNamed paths.hasPath matches.matchAt symbols.hasSymbol symbols.allStandIn symbols.keepsSymbols text.split fields.digits fields.decimal fields.number fields.enumNumber fields.decimalIn fields.eachPrintable fields.name line.column line.order line.pad line.sign line.layoutColumns line.intLine line.bitsLine line.enumLineOf line.valueLineOf line.compoundLineOf line.optional line.memberWord line.memberLineOf line.numbers line.arrayLineOf line.realLineOf line.lineKind line.lineOf sheet.typeNumbered sheet.isApart sheet.judge sheet.linesFrom sheet.outcomeOf sheet.sheetOf worths.worth nearest.highest nearest.magnitudeBits reals.intToReal reals.realToIntOf one.reading one.withLeaf one.withLeavesBelow one.kindAt one.givenAt one.raisedBelow one.firstRaising many.joined many.exceptions one.stopKindAt handling.wordAt handling.handlingAt runs.checksOf runs.stopFrom runs.answer runs.after lists.leafLines lists.leafList listing.answerOf listing.listAfter
 solved = refl

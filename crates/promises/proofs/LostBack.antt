@@ -22,6 +22,7 @@ use Rattle.datatype.specs.Datatype.Datatype.{leaf}
 use Rattle.datatype.specs.Symbols.{symbolOf, numberOf as numberNamed}
 use Rattle.datatype.specs.Paths as paths
 use Rattle.datatype.specs.Matches as matches
+use Rattle.datatype.specs.Handling as handling
 use Rattle.datatype.specs.SymbolSets as symbols
 use Rattle.text.specs.Text as text
 use Rattle.text.specs.Text.{bytes}
@@ -52,11 +53,11 @@ D = leaf (enumeration byte (symbol "shut" 1 ∷ symbol "open" 0 ∷ []))
 -- ---- a valve that is open, there and back
 
 answers : (answer there ≡ Done 0) × (after there ≡ 0 ∷ []) × (answer back ≡ Symbols)
-unfolding same symbolOf numberNamed paths.memberNamed paths.hasPath matches.matchAt symbols.hasSymbol symbols.allStandIn symbols.keepsSymbols text.split fields.digits fields.decimal fields.number fields.enumNumber fields.decimalIn fields.eachPrintable fields.name line.column line.order line.pad line.sign line.layoutColumns line.intLine line.bitsLine line.enumLineOf line.valueLineOf line.compoundLineOf line.memberLineOf line.numbers line.arrayLineOf line.realLineOf line.lineKind line.lineOf sheet.typeNumbered sheet.isApart sheet.judge sheet.linesFrom sheet.outcomeOf sheet.sheetOf one.reading one.withLeaf one.withLeavesBelow one.kindAt one.givenAt one.raisedBelow one.firstRaising many.joined many.exceptions runs.checksOf runs.stopFrom runs.answer runs.after
+unfolding same symbolOf numberNamed paths.memberNamed paths.hasPath matches.matchAt symbols.hasSymbol symbols.allStandIn symbols.keepsSymbols text.split fields.digits fields.decimal fields.number fields.enumNumber fields.decimalIn fields.eachPrintable fields.name line.column line.order line.pad line.sign line.layoutColumns line.intLine line.bitsLine line.enumLineOf line.valueLineOf line.compoundLineOf line.optional line.memberWord line.memberLineOf line.numbers line.arrayLineOf line.realLineOf line.lineKind line.lineOf sheet.typeNumbered sheet.isApart sheet.judge sheet.linesFrom sheet.outcomeOf sheet.sheetOf one.reading one.withLeaf one.withLeavesBelow one.kindAt one.givenAt one.raisedBelow one.firstRaising many.joined many.exceptions one.stopKindAt handling.wordAt handling.handlingAt runs.checksOf runs.stopFrom runs.answer runs.after
 answers = (refl, refl, refl)
 
 types : Types there S D
-unfolding same symbolOf numberNamed text.split fields.digits fields.decimal fields.number fields.enumNumber fields.decimalIn fields.eachPrintable fields.name line.column line.order line.pad line.sign line.layoutColumns line.intLine line.bitsLine line.enumLineOf line.valueLineOf line.compoundLineOf line.memberLineOf line.numbers line.arrayLineOf line.realLineOf line.lineKind line.lineOf sheet.typeNumbered sheet.isApart sheet.judge sheet.linesFrom sheet.outcomeOf sheet.sheetOf
+unfolding same symbolOf numberNamed text.split fields.digits fields.decimal fields.number fields.enumNumber fields.decimalIn fields.eachPrintable fields.name line.column line.order line.pad line.sign line.layoutColumns line.intLine line.bitsLine line.enumLineOf line.valueLineOf line.compoundLineOf line.optional line.memberWord line.memberLineOf line.numbers line.arrayLineOf line.realLineOf line.lineKind line.lineOf sheet.typeNumbered sheet.isApart sheet.judge sheet.linesFrom sheet.outcomeOf sheet.sheetOf
 types = record { source = refl; destination = refl }
 
 is-back : WayBack S D there back

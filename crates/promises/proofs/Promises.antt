@@ -1,9 +1,9 @@
 -- Demands 2 and 3 about whole calls, over all records and in every form. Assumes nothing: the types of sheets are well formed (crate sheet).
-use mathlib.Core.Path.{_≡_, sym, ap, ap₂, _∙_, subst, subst₂}
+use mathlib.Core.Path.{_≡_, refl, sym, ap, ap₂, _∙_, subst, subst₂}
 use mathlib.Core.Logic.{_⊎_, inl, inr, ⊎-elim}
 use mathlib.Core.List.{List}
 use mathlib.Core.Option.{some}
-use Prim.Native.Nat.{ℕ, _*_, _≤_, _<_}
+use Prim.Native.Nat.{ℕ, zero, suc, _*_, _≤_, _<_}
 use native.Mathlib.Omega.{arith}
 use lib.Dec.{leb}
 use lib.ListN.{length, take, drop}
@@ -16,12 +16,16 @@ use Rattle.datatype.specs.Datatype.{Leaf, layoutOf, Datatype, size}
 use Rattle.datatype.specs.Matches.Match.{matched}
 use Rattle.datatype.specs.WellFormed.{WellFormedLeaf, WellFormed}
 use Rattle.datatype.specs.SymbolSets.{LostSymbol, EqualSymbols}
+use Rattle.datatype.specs.Handling.{handlingAt}
+use Rattle.datatype.proofs.Ways.{way-starts, match-way}
 use Rattle.datatype.proofs.Matches.{match-formed, match-path, path-back}
+use Rattle.datatype.proofs.Handling.{handling-most}
 use Rattle.datatype.proofs.SymbolSets.{each-stands, lost-symbol, equal-back, equal-or-lost}
 use Rattle.sheet.specs.Sheet.{sheetOf}
 use Rattle.sheet.proofs.ReadWellFormed.{read-well-formed}
 use Rattle.records.specs.Leaf.{numberIn}
 use Rattle.records.specs.Arrival.{standsFor}
+use Rattle.records.specs.Record.{kindAt}
 use Rattle.records.specs.Records.{recordAt, readings, convertedAt, convertedRecords, exceptions}
 use Rattle.records.specs.Matched.{MatchedLeaf, matchedNumber, Agree}
 use Rattle.records.proofs.OneLeaf.{InRange, read-in-range, arrives}
@@ -33,10 +37,10 @@ use Rattle.runs.specs.Run.Form.{inPlace}
 use Rattle.runs.specs.Run.Checked.{refused, passed}
 use Rattle.runs.specs.Parts.{convertedBytes, clearedTail, zeros, laterBytes}
 use Rattle.runs.proofs.Checks.{done-is, stop-is, refused-or-passed, passed-tells, tells-passed, symbols-refused, room-behind, Early, refused-early, in-place-checks, table-long}
-use Rattle.runs.proofs.Exceptions.{handled-quiet, quiet-handled, handled-first, same-handled, handled-number, handled-count}
+use Rattle.runs.proofs.Exceptions.{handled-quiet, quiet-handled, handled-first, same-handled, handled-number, handled-count, handled-clamped}
 use Rattle.runs.proofs.Buffers.{answer-refused, after-refused, answer-is, after-is, after-cases, result-none, result-converted, result-cleared, result-later, result-length}
 use Rattle.runs.proofs.Table.{cleared-zero, cleared-beyond, cleared-length, table-cases}
-use Rattle.promises.proofs.Stops.{first-leaf, first-record, first-byte, first-given}
+use Rattle.promises.proofs.Stops.{kind-of, first-leaf, first-record, first-byte, first-given}
 use Rattle.promises.proofs.WithoutSymbol.{kind-3-of}
 use Rattle.promises.specs.Promise.{answerNumber, answerFields, SameAnswer, IsDone, DoneWithoutException, RefusedBeforeStop, Types, before, SameCall, SameBackground, SameConverted, SameCleared, SameEffect, Demand3, OnSignificantBits, WayBack, Returned, OnlyWhereEqual, fromCopy, AsFromCopy, becomes, KindThree, recordOf, arrivedNumber, Arrived, Stopped, Uncovered, Kept, table, TableKept}
 
@@ -357,6 +361,17 @@ module _ (r : Run) where
     kept-count d =
         handled-count S D (r .handling) (r .count) (readings S D (r .source)) (answerFields r .count) (sym (answer-is r S D c) ∙ done-is (answer r) d)
 
+    kept-clamped : IsDone r → (m : MatchedLeaf S D (r .count)) → 1 ≤ becomes m (r .source) .kind → handlingAt (r .handling) D (m .to) ≡ 0
+    kept-clamped d m raised =
+        let quiet : handlingAt (r .handling) D (m .to) ≡ 1 → kindAt S D (readings S D (r .source) (m .index)) (m .to) ≡ 0 =
+        handled-clamped S D (r .handling) (r .count) (readings S D (r .source)) (answerFields r .count) (sym (answer-is r S D c) ∙ done-is (answer r) d) (m .index) (m .in-records)
+        (m .to) (way-starts (match-way D S (destination-formed r S D c) (m .match)) (destination-formed r S D c)) in
+        go (handlingAt (r .handling) D (m .to)) (handling-most (r .handling) D (m .to) (leb-true (r .handling) 1 (passed-tells r S D c .handling))) quiet
+      where
+        go : (g : ℕ) → g ≤ 1 → (g ≡ 1 → kindAt S D (readings S D (r .source) (m .index)) (m .to) ≡ 0) → g ≡ 0
+        go zero l quiet = refl
+        go (suc g) l quiet = absurd (omega (arith, raised, kind-of m (r .source), quiet (omega arith)))
+
     kept-background : (i j : ℕ) → IsDone r → i < r .count → Uncovered S D j
         → take 1 (drop j (recordAt (size D) i (after r))) ≡ take 1 (drop j (recordAt (size D) i (r .background)))
     kept-background i j d l u =
@@ -465,14 +480,13 @@ stopped r S D t e =
     handled-first S D (r .handling) (r .count) (readings S D (r .source)) (answerFields r .«record») (answerFields r .at) (answerFields r .kind) (s .0)
     (leb-true (r .handling) 1 (passed-tells r S D c .handling)) (sym (answer-is r S D c) ∙ s .1) in
     record {
-      handling = f .0;
       given = s .0;
-      names = f .1;
+      names = f;
       number = record { sign = ap (λ (a : Answer). valuesOf a .given) (s .1); magnitude = ap (λ (a : Answer). valuesOf a .magnitude) (s .1) };
-      leaf = first-leaf S D (r .count) (r .source) (f .1);
-      of-record = first-record S D (r .count) (r .source) (f .1);
-      at-byte = first-byte S D (r .count) (r .source) (f .1);
-      is-matched = first-given S D (r .count) (r .source) (f .1);
+      leaf = first-leaf S D (r .count) (r .source) f;
+      of-record = first-record S D (r .count) (r .source) f;
+      at-byte = first-byte S D (r .count) (r .source) f;
+      is-matched = first-given S D (r .count) (r .source) f;
     }
 
 -- Demand 2, the rest of the buffer that is written.
@@ -483,6 +497,7 @@ kept r =
       refusals = λ n. ⊎-elim (λ (d : IsDone r). absurd (n d)) (λ e. e) (done-or-kept r);
       nothing = λ z. (done-if-none r z, kept-nothing r z);
       count = λ S D t d. kept-count r S D (done-passes r S D t d) d;
+      clamped = λ S D t d m k. kept-clamped r S D (done-passes r S D t d) d m k;
       cleared = λ S D t d. cleared-is r S D (done-passes r S D t d) d;
       later = λ S D t d. later-is r S D (done-passes r S D t d) d;
       background = λ S D i j t d l u. kept-background r S D (done-passes r S D t d) i j d l u;

@@ -9,6 +9,7 @@ use Rattle.answer.specs.declared.Given.{Given}
 use Rattle.datatype.specs.Datatype.{Leaf, Datatype, size}
 use Rattle.datatype.specs.Matches.{Match, matchAt}
 use Rattle.datatype.specs.Matches.Match.{unmatched, matched}
+use Rattle.datatype.specs.Handling.{handlingAt}
 use Rattle.records.specs.Leaf.{givenOf}
 use Rattle.records.specs.Record.{kindAt, givenAt}
 use Rattle.records.specs.Records.{readings, recordAt}
@@ -38,7 +39,7 @@ given-of : {S D : Datatype} {n : ℕ} (m : MatchedLeaf S D n) (source : List ℕ
 unfolding givenAt
 given-of {S} {D} m source = rw (m .match, reading-at S D (recordAt (size S) (m .index) source) (m .to) (m .from) (m .source) (m .destination) (m .match))
 
-module _ (S D : Datatype) (n : ℕ) (source : List ℕ) {i b k : ℕ} {g : Given} (e : FirstException S D n (readings S D source) i b k g) where
+module _ {h : ℕ} (S D : Datatype) (n : ℕ) (source : List ℕ) {i b k : ℕ} {g : Given} (e : FirstException h S D n (readings S D source) i b k g) where
   -- the leaf of the first exception
   pub first-leaf : MatchedLeaf S D n
   first-leaf =
@@ -52,6 +53,10 @@ module _ (S D : Datatype) (n : ℕ) (source : List ℕ) {i b k : ℕ} {g : Given
   pub first-byte : first-leaf .to ≡ b
   unfolding first-leaf
   first-byte = refl
+
+  pub first-obeys : handlingAt h D (first-leaf .to) ≡ 1
+  unfolding first-leaf
+  first-obeys = e .obeys
 
   pub first-raises : 1 ≤ becomes first-leaf source .kind
   unfolding first-leaf

@@ -9,6 +9,7 @@ use Rattle.answer.specs.declared.Given as answer
 use Rattle.answer.specs.declared.Values.{Values}
 use Rattle.datatype.specs.Datatype.{Datatype, size}
 use Rattle.datatype.specs.HasPath.{HasPath}
+use Rattle.datatype.specs.Handling.{clamp, stop, handlingAt}
 use Rattle.datatype.specs.SymbolSets.{LostSymbol}
 use Rattle.sheet.specs.FirstFault.{FirstFault}
 use Rattle.records.specs.Records.{readings, exceptions}
@@ -24,9 +25,10 @@ use Rattle.promises.specs.Promise.{answerNumber, answerFields, becomes}
 abbrev pub OfTypes : Run → (Datatype → Datatype → Type 0) → Type 0
 OfTypes r holds = OfSheets (r .sourceSheet) (r .destinationSheet) holds
 
--- a matched leaf of one of the records whose number raises an exception
+-- document 02, 2026-12: "a leaf that obeys stop raises": a matched leaf of one of the records
 pub record Exception (r : Run) (S D : Datatype) : Type 0 where
   pub leaf : MatchedLeaf S D (r .count)
+  pub obeys : handlingAt (r .handling) D (leaf .to) ≡ stop
   pub raises : 1 ≤ becomes leaf (r .source) .kind
 
 -- ---- the table
@@ -50,7 +52,7 @@ number STOP = 8
 -- the column "Given exactly when"
 abbrev pub Given : Run → Row → Type 0
 -- "not 0 or 1"
-Given r HANDLING = ¬ ((r .handling ≡ 0) ⊎ (r .handling ≡ 1))
+Given r HANDLING = ¬ ((r .handling ≡ clamp) ⊎ (r .handling ≡ stop))
 -- "under 8,192 words"
 Given r TABLE = length (r .table) < 8192
 -- "source (or only) sheet faulty"
@@ -65,8 +67,8 @@ Given r SYMBOLS = OfTypes r LostSymbol
 Given r COUNT = 65536 < r .count
 -- "source under nS, destination or background under nD, in-place buffer under n × max(S, D)"
 Given r ROOM = OfTypes r (λ S D. TooShort (r .form) (r .count) (size S) (size D) (length (r .source)) (length (r .background)))
--- "handling 1 and an exception exists"
-Given r STOP = (r .handling ≡ 1) × OfTypes r (Exception r)
+-- "exactly when a leaf that obeys stop raises"
+Given r STOP = OfTypes r (Exception r)
 
 -- "in the order of checks", which need not be that of the numbers
 abbrev pub order : List Row
@@ -83,13 +85,13 @@ Fields r PATH v = v ≡ noField
 Fields r SYMBOLS v = v ≡ noField
 Fields r COUNT v = v ≡ noField
 Fields r ROOM v = v ≡ noField
--- "record, destination byte in it, kind": "STOP names the lowest record, and in it the raising leaf whose first byte is lowest." Document 02, 2026-05: "8 gains
--- the field" of the number that was given.
+-- "record, destination byte in it, kind": "STOP names the lowest record, and in it the raising leaf whose first byte is lowest", of those that obey stop (2026-12).
+-- Document 02, 2026-05: "8 gains the field" of the number that was given.
 Fields r STOP v =
     OfTypes r
-    (λ S D. (i : ℕ) × (b : ℕ) × (k : ℕ) × (g : answer.Given) × FirstException S D (r .count) (readings S D (r .source)) i b k g × (v ≡ onlyPlace i b k g))
+    (λ S D. (i : ℕ) × (b : ℕ) × (k : ℕ) × (g : answer.Given) × FirstException (r .handling) S D (r .count) (readings S D (r .source)) i b k g × (v ≡ onlyPlace i b k g))
 
--- of "0 done", the "exception count": "how many matched leaves, over all records, raised one"
+-- of "0 done", the "exception count": "how many matched leaves, over all records, raised one". As no leaf that obeys stop did, it "takes all clamped ones" (2026-12)
 abbrev pub DoneFields : Run → Values → Type 0
 DoneFields r v = OfTypes r (λ S D. v ≡ onlyCount (exceptions S D (r .count) (readings S D (r .source))))
 

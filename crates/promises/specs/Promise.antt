@@ -20,6 +20,7 @@ use Rattle.datatype.specs.Symbols.{symbolOf}
 use Rattle.datatype.specs.Matches.{matchAt}
 use Rattle.datatype.specs.Matches.Match.{matched}
 use Rattle.datatype.specs.SymbolSets.{LostSymbol, EqualSymbols}
+use Rattle.datatype.specs.Handling.{clamp, handlingAt, wordless}
 use Rattle.sheet.specs.Sheet.{sheetOf}
 use Rattle.sheet.specs.Sheet.Sheet.{ofType}
 use Rattle.records.specs.Leaf.{numberIn, givenOf, converted}
@@ -195,11 +196,10 @@ pub record NamesNumber (fields : Values) (g : Given) : Type 0 where
   pub sign : fields .given ≡ givenSign g
   pub magnitude : fields .magnitude ≡ givenMagnitude g
 
--- "8 STOP: handling 1 and an exception exists", and what it names
+-- what STOP names: document 02, 2026-12: "a leaf that obeys stop raises", and it is "the first such leaf"
 pub record Stopped (S D : Datatype) (r : Run) : Type 0 where
-  pub handling : r .handling ≡ 1
   pub given : Given
-  pub names : FirstException S D (r .count) (readings S D (r .source)) (answerFields r .«record») (answerFields r .at) (answerFields r .kind) given
+  pub names : FirstException (r .handling) S D (r .count) (readings S D (r .source)) (answerFields r .«record») (answerFields r .at) (answerFields r .kind) given
   pub number : NamesNumber (answerFields r) given
   -- that is the matched number of the named leaf in the named record: its sign and magnitude, or of a real its 64 bits
   pub leaf : MatchedLeaf S D (r .count)
@@ -219,6 +219,9 @@ pub record Kept (r : Run) : Type 0 where
   pub nothing : r .count ≡ 0 → (RefusedBeforeStop r ⊎ IsDone r) × (after r ≡ before r)
   -- "The count is how many matched leaves, over all records, raised one."
   pub count : (S D : Datatype) → Types r S D → IsDone r → answerFields r .count ≡ exceptions S D (r .count) (readings S D (r .source))
+  -- document 02, 2026-12: "the count takes all clamped ones": each leaf that raised one obeys clamp
+  pub clamped : (S D : Datatype) → Types r S D → IsDone r → (m : MatchedLeaf S D (r .count)) → 1 ≤ becomes m (r .source) .kind
+      → handlingAt (r .handling) D (m .to) ≡ clamp
   -- "bytes nD to nS − 1 (if S is larger) are zero"
   pub cleared : (S D : Datatype) → Types r S D → IsDone r → clearedTail (r .form) S D (r .count) (after r) ≡ zeros (r .form) S D (r .count)
   -- "all later ones unchanged", "Copying changes nothing past nD."
@@ -226,6 +229,28 @@ pub record Kept (r : Run) : Type 0 where
   -- "Every destination bit not fixed by a matched leaf is the background's": byte j of record i
   pub background : (S D : Datatype) (i j : ℕ) → Types r S D → IsDone r → i < r .count → Uncovered S D j
       → take 1 (drop j (recordAt (size D) i (after r))) ≡ take 1 (drop j (recordAt (size D) i (r .background)))
+
+-- ---- words
+
+-- two runs that differ in the source sheets alone, and these in their words alone
+pub record OtherSourceWords (r q : Run) : Type 0 where
+  pub form : r .form ≡ q .form
+  pub handling : r .handling ≡ q .handling
+  pub first : Datatype
+  pub second : Datatype
+  pub first-sheet : sheetOf (r .sourceSheet) ≡ ofType first
+  pub second-sheet : sheetOf (q .sourceSheet) ≡ ofType second
+  pub same-without : wordless first ≡ wordless second
+  pub destinationSheet : r .destinationSheet ≡ q .destinationSheet
+  pub count : r .count ≡ q .count
+  pub source : r .source ≡ q .source
+  pub background : r .background ≡ q .background
+  pub tableLength : length (r .table) ≡ length (q .table)
+
+-- document 02, 2026-12: "source sheets may carry it without effect"
+pub record WithoutEffect (r q : Run) : Type 0 where
+  pub answers : answer r ≡ answer q
+  pub leaves : after r ≡ after q
 
 -- ---- the working table
 

@@ -47,7 +47,7 @@ fn judge_line(half: &mut [u32], sheet: &[u8], types: u32, rows: u32, r: ReadLine
             distance,
         ),
         Line::Compound(size, _) => judge_compound(half, sheet, types, rows, size),
-        Line::Member(a, e, offset, kind, _) => judge_member(
+        Line::Member(a, e, offset, kind, word, _) => judge_member(
             half,
             sheet,
             types,
@@ -56,6 +56,7 @@ fn judge_line(half: &mut [u32], sheet: &[u8], types: u32, rows: u32, r: ReadLine
             e - a,
             offset,
             kind,
+            word,
         ),
         Line::Array(base, _) => judge_array(half, sheet, types, rows, base, dims),
         Line::Real(size, order, _) => judge_real(half, sheet, types, rows, size, order),
@@ -72,7 +73,7 @@ fn next_of(line: Line) -> usize
         Line::Enum(_, next) => next,
         Line::Value(_, _, _, _, next) => next,
         Line::Compound(_, next) => next,
-        Line::Member(_, _, _, _, next) => next,
+        Line::Member(_, _, _, _, _, next) => next,
         Line::Array(_, next) => next,
         Line::Real(_, _, next) => next,
         Line::Fault => 0,

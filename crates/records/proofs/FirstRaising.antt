@@ -5,40 +5,39 @@ use mathlib.Core.Option.{none, some}
 use Prim.Native.Nat.{ℕ, zero, suc, _+_, _≤_, _<_}
 use native.Mathlib.Nat.{le-refl, eq-or-lt-of-le}
 use native.Mathlib.Omega.{arith}
-use Rattle.datatype.specs.Datatype.{Datatype}
 use Rattle.datatype.proofs.Tests.{nothing}
-use Rattle.records.specs.Record.{Reading, kindAt, orLater, firstRaising}
+use Rattle.records.specs.Record.{orLater, firstRaising}
 
 -- of the k bytes from b on, c is the lowest whose leaf raises an exception
-pub record Lowest (S D : Datatype) (f : Reading) (b k c : ℕ) : Type 0 where
+pub record Lowest (kind : ℕ → ℕ) (b k c : ℕ) : Type 0 where
   pub from : b ≤ c
   pub below : c < b + k
-  pub raises : 1 ≤ kindAt S D f c
-  pub none-lower : (d : ℕ) → b ≤ d → d < c → kindAt S D f d ≡ 0
+  pub raises : 1 ≤ kind c
+  pub none-lower : (d : ℕ) → b ≤ d → d < c → kind d ≡ 0
 
-module _ (S D : Datatype) (f : Reading) where
-  pub first-none : (b k : ℕ) → firstRaising S D f b k ≡ none → (c : ℕ) → b ≤ c → c < b + k → kindAt S D f c ≡ 0
+module _ (kind : ℕ → ℕ) where
+  pub first-none : (b k : ℕ) → firstRaising kind b k ≡ none → (c : ℕ) → b ≤ c → c < b + k → kind c ≡ 0
   unfolding firstRaising
   first-none b zero e c l h = absurd (omega arith)
-  first-none b (suc k) e c l h = at (kindAt S D f b) refl e (λ g m. first-none (suc b) k g c m (omega arith))
+  first-none b (suc k) e c l h = at (kind b) refl e (λ g m. first-none (suc b) k g c m (omega arith))
     where
-      at : (j : ℕ) → kindAt S D f b ≡ j → orLater b j (firstRaising S D f (suc b) k) ≡ none
-          → (firstRaising S D f (suc b) k ≡ none → suc b ≤ c → kindAt S D f c ≡ 0) → kindAt S D f c ≡ 0
+      at : (j : ℕ) → kind b ≡ j → orLater b j (firstRaising kind (suc b) k) ≡ none
+          → (firstRaising kind (suc b) k ≡ none → suc b ≤ c → kind c ≡ 0) → kind c ≡ 0
       at zero q g next = ⊎-elim (λ (i : b ≡ c). rw (← i) q) (λ (i : b < c). next g i) (eq-or-lt-of-le l)
       at (suc j) q g next = nothing (sym g)
 
-  pub none-first : (b k : ℕ) → ((c : ℕ) → b ≤ c → c < b + k → kindAt S D f c ≡ 0) → firstRaising S D f b k ≡ none
+  pub none-first : (b k : ℕ) → ((c : ℕ) → b ≤ c → c < b + k → kind c ≡ 0) → firstRaising kind b k ≡ none
   unfolding firstRaising
   none-first b zero h = refl
   none-first b (suc k) h = rw (h b (le-refl b) (omega arith)) (none-first (suc b) k (λ c l g. h c (omega arith) (omega arith)))
 
-  pub first-lowest : (b k c : ℕ) → firstRaising S D f b k ≡ some c → Lowest S D f b k c
+  pub first-lowest : (b k c : ℕ) → firstRaising kind b k ≡ some c → Lowest kind b k c
   unfolding firstRaising
   first-lowest b zero c e = nothing e
-  first-lowest b (suc k) c e = at (kindAt S D f b) refl e (first-lowest (suc b) k c)
+  first-lowest b (suc k) c e = at (kind b) refl e (first-lowest (suc b) k c)
     where
-      at : (j : ℕ) → kindAt S D f b ≡ j → orLater b j (firstRaising S D f (suc b) k) ≡ some c
-          → (firstRaising S D f (suc b) k ≡ some c → Lowest S D f (suc b) k c) → Lowest S D f b (suc k) c
+      at : (j : ℕ) → kind b ≡ j → orLater b j (firstRaising kind (suc b) k) ≡ some c
+          → (firstRaising kind (suc b) k ≡ some c → Lowest kind (suc b) k c) → Lowest kind b (suc k) c
       at zero q g next =
           let h = next g in
           record {

@@ -1,7 +1,10 @@
 pub mod OneLeaf
 pub mod OneRecord
 pub mod FirstRaising
+pub mod Stopping
 pub mod ManyRecords
 pub mod Results
+pub mod Alike
 pub mod Matched
 pub mod Plans
+pub mod StopPlan

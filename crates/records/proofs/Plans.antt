@@ -77,15 +77,15 @@ module _ (S D : Datatype) (r : List ℕ) where
       rw (e, raised-next b k) (omega (arith, raised-from (suc b) k))
 
   first-from : (b k : ℕ)
-      → firstBy (planFrom S D b k) r ≡ onSome raised nowhere (firstRaising S D (reading S D r) b k)
+      → firstBy (planFrom S D b k) r ≡ onSome raised nowhere (firstRaising (kindAt S D (reading S D r)) b k)
   unfolding planFrom firstBy firstRaising
   first-from b zero = refl
   first-from b (suc k) = first-next b k ∙ go (first-from (suc b) k) (kindAt S D (reading S D r) b) refl
     where
-      go : firstBy (planFrom S D (suc b) k) r ≡ onSome raised nowhere (firstRaising S D (reading S D r) (suc b) k)
+      go : firstBy (planFrom S D (suc b) k) r ≡ onSome raised nowhere (firstRaising (kindAt S D (reading S D r)) (suc b) k)
           → (j : ℕ) → kindAt S D (reading S D r) b ≡ j
           → orElse b (kindAt S D (reading S D r) b) (givenAt S D (reading S D r) b) (firstBy (planFrom S D (suc b) k) r)
-          ≡ onSome raised nowhere (orLater b (kindAt S D (reading S D r) b) (firstRaising S D (reading S D r) (suc b) k))
+          ≡ onSome raised nowhere (orLater b (kindAt S D (reading S D r) b) (firstRaising (kindAt S D (reading S D r)) (suc b) k))
       go later zero q = simp q later
       go later (suc j) q = simp q
 
@@ -101,7 +101,7 @@ module _ (S D : Datatype) (r : List ℕ) where
 
   -- nowhere if no leaf raises; else the lowest byte whose leaf does, its kind, and what was given
   pub plan-first : firstBy (planOf S D) r
-      ≡ onSome (λ b. at b (kindAt S D (reading S D r) b) (givenAt S D (reading S D r) b)) nowhere (firstRaising S D (reading S D r) 0 (size D))
+      ≡ onSome (λ b. at b (kindAt S D (reading S D r) b) (givenAt S D (reading S D r) b)) nowhere (firstRaising (kindAt S D (reading S D r)) 0 (size D))
   plan-first = first-from 0 (size D)
 
 -- ---- the entries lie inside their records, between well-formed leaves

@@ -10,6 +10,7 @@ use Rattle.number.specs.Place.{stored}
 use Rattle.datatype.specs.Datatype.{layoutOf, Datatype, size}
 use Rattle.datatype.specs.Symbols.{onSome}
 use Rattle.datatype.specs.Matches.{onMatch, matchAt}
+use Rattle.datatype.specs.Handling.{handlingAt}
 use Rattle.records.specs.Leaf.{numberIn, converted}
 
 -- the matched number of each destination leaf, by the byte at which the leaf starts
@@ -58,7 +59,15 @@ abbrev pub orLater : ℕ → ℕ → Option ℕ → Option ℕ
 orLater b zero later = later
 orLater b (suc kind) later = some b
 
--- "the raising leaf whose first byte is lowest", of the k bytes from b on
-unfoldable pub firstRaising : Datatype → Datatype → Reading → ℕ → ℕ → Option ℕ
-firstRaising S D f b zero = none
-firstRaising S D f b (suc k) = orLater b (kindAt S D f b) (firstRaising S D f (suc b) k)
+-- "the raising leaf whose first byte is lowest", of the k bytes from b on, where `kind` says with which kind the leaf at a byte raises
+unfoldable pub firstRaising : (ℕ → ℕ) → ℕ → ℕ → Option ℕ
+firstRaising kind b zero = none
+firstRaising kind b (suc k) = orLater b (kind b) (firstRaising kind (suc b) k)
+
+-- document 02, 2026-12, of "a leaf that obeys stop": the kind with which the leaf at byte b stops a call with handling h, 0 where it raises nothing or obeys clamp
+abbrev pub ifStop : ℕ → ℕ → ℕ
+ifStop zero kind = 0
+ifStop (suc h) kind = kind
+
+unfoldable pub stopKindAt : ℕ → Datatype → Datatype → Reading → ℕ → ℕ
+stopKindAt h S D f b = ifStop (handlingAt h D b) (kindAt S D f b)

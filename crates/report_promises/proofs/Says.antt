@@ -35,7 +35,7 @@ use Rattle.channels.proofs.EachLeaf.{row-there, row-good, starts-inside, each-o
 use Rattle.reports.specs.Call.{Call, width, heldBefore, reportOf, checks, logAfter, memoryAfter}
 use Rattle.reports.specs.Parts.{IsDone, written, Types}
 use Rattle.reports.proofs.Checks.{passed-tells, done-passes, done-passed, memory-is, source-formed, reader-formed, reader-size, background-room, converted-is, report-length, held-after, written-held}
-use Rattle.reports.proofs.Clamping.{run-answer, run-log, run-exceptions}
+use Rattle.reports.proofs.Clamping.{clamped-answer, clamped-log, run-answer, run-log, run-exceptions}
 use Rattle.report_promises.specs.Says.{numbersIn, heldAfter, Says}
 
 module _ (c : Call) (S D : Datatype) (e : checks c ≡ passed S D) where
@@ -115,8 +115,9 @@ says c S D t d =
       converted =
           record {
             exceptions = exceptions S D (c .count) (readings S D (c .log));
-            answer = run-answer c S D e;
-            log = run-log c S D e;
+            answer = clamped-answer c S D e;
+            log = clamped-log c S D e;
+            not-stopped = λ n. (run-answer c S D e n, run-log c S D e n);
             added = run-exceptions c S D e;
           };
       records = records-added c S D e;

@@ -193,5 +193,5 @@ rows =
     ∷ []
 
 worked : map (λ (r : Row). made (r .call)) rows ≡ map (λ (r : Row). r .result) rows
-unfolding rows lent made row memoryOf refusal same symbolOf numberNamed leaves.within leaves.leafAt paths.memberNamed paths.hasPath matches.matchAt symbols.hasSymbol symbols.allStandIn symbols.keepsSymbols text.split fields.digits fields.decimal fields.number fields.enumNumber fields.decimalIn fields.eachPrintable fields.name line.column line.order line.pad line.sign line.layoutColumns line.intLine line.bitsLine line.enumLineOf line.valueLineOf line.compoundLineOf line.memberLineOf line.numbers line.arrayLineOf line.realLineOf line.lineKind line.lineOf sheet.typeNumbered sheet.isApart sheet.judge sheet.linesFrom sheet.outcomeOf sheet.sheetOf worths.worth nearest.highest nearest.magnitudeBits reals.intToReal reals.realToIntOf one.reading one.withLeaf one.withLeavesBelow one.kindAt one.raisedBelow many.joined many.exceptions channels.channelsFrom channels.allNarrow channels.sampleAt reports.rowAfter reports.rowsAfter reports.rowsFrom reports.rowsWords reports.goodRows reports.takes shown.lines shown.shown calls.reportOf calls.checks calls.answer calls.logAfter calls.memoryAfter calls.outputAfter
+unfolding rows lent made row memoryOf refusal same symbolOf numberNamed leaves.within leaves.leafAt paths.memberNamed paths.hasPath matches.matchAt symbols.hasSymbol symbols.allStandIn symbols.keepsSymbols text.split fields.digits fields.decimal fields.number fields.enumNumber fields.decimalIn fields.eachPrintable fields.name line.column line.order line.pad line.sign line.layoutColumns line.intLine line.bitsLine line.enumLineOf line.valueLineOf line.compoundLineOf line.optional line.memberWord line.memberLineOf line.numbers line.arrayLineOf line.realLineOf line.lineKind line.lineOf sheet.typeNumbered sheet.isApart sheet.judge sheet.linesFrom sheet.outcomeOf sheet.sheetOf worths.worth nearest.highest nearest.magnitudeBits reals.intToReal reals.realToIntOf one.reading one.withLeaf one.withLeavesBelow one.kindAt one.raisedBelow many.joined many.exceptions channels.channelsFrom channels.allNarrow channels.sampleAt reports.rowAfter reports.rowsAfter reports.rowsFrom reports.rowsWords reports.goodRows reports.takes shown.lines shown.shown calls.reportOf calls.checks calls.answer calls.logAfter calls.memoryAfter calls.outputAfter
 worked = refl

@@ -5,9 +5,10 @@ use Prim.Native.Nat.{ℕ, _*_}
 use lib.ListN.{take}
 use Rattle.answer.specs.Answer.{numberOf, valuesOf}
 use Rattle.datatype.specs.Datatype.{Datatype, size}
+use Rattle.datatype.specs.Handling.{clamp}
 use Rattle.sheet.specs.Sheet.{Sheet, sheetOf}
 use Rattle.sheet.specs.Sheet.Sheet.{ofType, faultyAt}
-use Rattle.runs.specs.Run.{Run, inPlaceRun, clamp}
+use Rattle.runs.specs.Run.{Run, inPlaceRun}
 use Rattle.reports.specs.Call.{Call, answer, logAfter, outputAfter}
 
 -- ---- the answer
@@ -57,6 +58,6 @@ abbrev pub convertedRecords : Call → List ℕ
 convertedRecords c = take (c .count * readerSize c) (logAfter c)
 
 -- "Each log is converted by the .. in-place form", and document 02, 2026-10: "The season report names handling 0": the run of that form and that handling with the
--- same sheets, count, log, background and table
+-- same sheets, count, log, background and table. 2026-12: a word of the reader's sheet may stop that run; the report "still clamps everything"
 abbrev pub clampingRun : Call → Run
 clampingRun c = inPlaceRun (c .sourceSheet) (c .readerSheet) (c .count) clamp (c .log) (c .background) (c .table)

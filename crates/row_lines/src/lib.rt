@@ -4,10 +4,12 @@ ghost use Rattle.line.specs.Read.{Reads, columnsReading, plainLine};
 use line::Line;
 use line::NameColumn;
 use line::Next;
+use line::WordColumn;
 use line_columns::name_column;
 use line_columns::next_line;
 use line_columns::number_column;
 use line_columns::whole_column;
+use line_columns::word_column;
 use text::Field;
 use text::Whole;
 
@@ -62,8 +64,11 @@ pub fn member_line(s: &[u8], q: usize) -> Line
     let Field::Number(kind, b) = number_column(s, a) else {
         return Line::Fault;
     };
-    let Next::At(next) = next_line(s, b) else {
+    let WordColumn::Holds(word, c) = word_column(s, b) else {
         return Line::Fault;
     };
-    Line::Member(start, end, offset, kind, next)
+    let Next::At(next) = next_line(s, c) else {
+        return Line::Fault;
+    };
+    Line::Member(start, end, offset, kind, word, next)
 }

@@ -1,5 +1,6 @@
 pub mod Checks
 pub mod Exceptions
+pub mod Words
 pub mod Buffers
 pub mod Table
 pub mod Refusals

@@ -9,11 +9,12 @@ use Rattle.answer.specs.declared.Answer.{Answer}
 use Rattle.answer.specs.declared.Answer.the-variants.{Done, Handling, Table, Source, Destination, Path, Count, Room, Stop, Range, Channel, Full, Symbols}
 use Rattle.datatype.specs.Datatype.{Datatype, size}
 use Rattle.datatype.specs.Symbols.{onSome}
+use Rattle.datatype.specs.Handling.{stop}
 use Rattle.datatype.specs.Paths.{hasPath}
 use Rattle.datatype.specs.SymbolSets.{keepsSymbols}
 use Rattle.sheet.specs.Sheet.{Sheet, sheetOf}
 use Rattle.sheet.specs.Sheet.Sheet.{ofType, faultyAt}
-use Rattle.records.specs.Record.{Reading, kindAt, givenAt, firstRaising}
+use Rattle.records.specs.Record.{Reading, kindAt, givenAt, firstRaising, stopKindAt}
 use Rattle.records.specs.Records.{Readings, readings, exceptions, copyResult, inPlaceResult}
 
 -- "Two forms. Copying: a source buffer and a destination buffer, whose own bytes are the background. In place: one buffer and a separate background."
@@ -30,13 +31,6 @@ pub record Run : Type 0 where
   pub source : List ℕ  -- the source buffer; in place, the one buffer
   pub background : List ℕ  -- the destination buffer; in place, the separate background
   pub table : List ℕ  -- the working table's words
-
--- "Handling 0 (clamp)", "handling 1 (stop)"
-abbrev pub clamp : ℕ
-clamp = 0
-
-abbrev pub stop : ℕ
-stop = 1
 
 -- "Each also has a plain form without handling"; document 02, 2026-10: "From now on the plain forms, in place and copying, handle as 1."
 abbrev pub plain : ℕ
@@ -104,19 +98,19 @@ onChecked f g (passed S D) = f S D
 
 -- ---- the answer
 
--- STOP at the first raising leaf of record i, if there is one, else what the later records say
-abbrev pub orStop : Datatype → Datatype → ℕ → Reading → Answer → Answer
-orStop S D i f later = onSome (λ b. Stop i b (kindAt S D f b) (givenAt S D f b)) later (firstRaising S D f 0 (size D))
+-- STOP at the first raising leaf of record i that obeys stop, if there is one, else what the later records say; h is the call's handling
+abbrev pub orStop : ℕ → Datatype → Datatype → ℕ → Reading → Answer → Answer
+orStop h S D i f later = onSome (λ b. Stop i b (kindAt S D f b) (givenAt S D f b)) later (firstRaising (stopKindAt h S D f) 0 (size D))
 
--- "STOP names the lowest record, and in it the raising leaf whose first byte is lowest." Over the k records from i on
-unfoldable pub stopFrom : Datatype → Datatype → Readings → ℕ → ℕ → Answer
-stopFrom S D fs i zero = Done 0
-stopFrom S D fs i (suc k) = orStop S D i (fs i) (stopFrom S D fs (suc i) k)
+-- "STOP names the lowest record, and in it the raising leaf whose first byte is lowest." Over the k records from i on; where none of them stops the call, `done`
+unfoldable pub stopFrom : ℕ → Datatype → Datatype → Readings → Answer → ℕ → ℕ → Answer
+stopFrom h S D fs done i zero = done
+stopFrom h S D fs done i (suc k) = orStop h S D i (fs i) (stopFrom h S D fs done (suc i) k)
 
--- "Handling 0 (clamp) writes these results; handling 1 (stop) refuses if any exception exists."
+-- "Handling 0 (clamp) writes these results; handling 1 (stop) refuses if any exception exists." Document 02, 2026-12: "STOP is given exactly when a leaf that obeys
+-- stop raises, and names the first such leaf; the count takes all clamped ones."
 abbrev pub handled : ℕ → Datatype → Datatype → ℕ → Readings → Answer
-handled zero S D n fs = Done (exceptions S D n fs)
-handled (suc h) S D n fs = stopFrom S D fs 0 n
+handled h S D n fs = stopFrom h S D fs (Done (exceptions S D n fs)) 0 n
 
 abbrev pub answerFor : Run → Datatype → Datatype → Answer
 answerFor r S D = handled (r .handling) S D (r .count) (readings S D (r .source))

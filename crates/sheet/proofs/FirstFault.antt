@@ -51,9 +51,9 @@ line-some s (atomicLine l) e = added s (when (valid l) (leaf (atomic l))) e
 line-some s (enumLine k) e = added s (typeNumbered k (s .types) >>= enumOf) e
 line-some s (valueLine x z) e = changed s (withValue x z) (s .types) e
 line-some s (compoundLine z) e = added s (when (leb 1 z && leb z 4096) (compound z empty)) e
-line-some s (memberLine x offset k) e =
-    let c = then-gave (typeNumbered k (older (s .types))) (λ T. onNewest (withMember x offset T) s (s .types)) e in
-    changed s (withMember x offset (c .0)) (s .types) (c .2)
+line-some s (memberLine x offset k word) e =
+    let c = then-gave (typeNumbered k (older (s .types))) (λ T. onNewest (withMember x offset T word) s (s .types)) e in
+    changed s (withMember x offset (c .0) word) (s .types) (c .2)
 line-some s (arrayLine k ds) e = added s (typeNumbered k (s .types) >>= arrayOf ds) e
 line-some s (realLine z o) e = added s (when (eqb z 8) (leaf (real (binary64 o)))) e
 

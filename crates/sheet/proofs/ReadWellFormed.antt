@@ -21,6 +21,7 @@ use Rattle.datatype.specs.Datatype.{binary64, Datatype, Members, size, elements
 use Rattle.datatype.specs.Datatype.Leaf.{atomic, enumeration, real}
 use Rattle.datatype.specs.Datatype.Datatype.{leaf, compound, array}
 use Rattle.datatype.specs.Datatype.Members.{empty, member}
+use Rattle.datatype.specs.declared.Word.{Word}
 use Rattle.datatype.specs.Symbols.{onSome, symbolOf, numberOf}
 use Rattle.datatype.specs.Paths.{Lookup, memberNamed, onFound}
 use Rattle.datatype.specs.Paths.Lookup.{missing, found}
@@ -116,7 +117,7 @@ value-formed x z (array s ds T) w e = nothing e
 apart : (offset w : ℕ) (ms : Members) → isApart offset w ms ≡ true → Apart offset w ms
 unfolding isApart
 apart offset w empty e = tt
-apart offset w (member y p U ms) e =
+apart offset w (member y p U word ms) e =
     let h = and-true (leb (offset + w) p || leb (p + size U) offset) (isApart offset w ms) e in
     (go (leb (offset + w) p) refl (h .0), apart offset w ms (h .1))
   where
@@ -128,10 +129,10 @@ missing-there : (m : Lookup) → onFound (λ o T. false) true m ≡ true → m �
 missing-there missing e = refl
 missing-there (found o T) e = absurd (false≢true e)
 
-member-formed : (x : List ℕ) (offset : ℕ) (M T : Datatype) {U : Datatype} → WellFormed M → WellFormed T → withMember x offset M T ≡ some U → WellFormed U
-member-formed x offset M (leaf y) f w e = nothing e
-member-formed x offset M (compound z ms) f w e =
-    let g = when-gave (mayPlace z ms x offset (size M)) (compound z (member x offset M ms)) e in
+member-formed : (x : List ℕ) (offset : ℕ) (M : Datatype) (word : Word) (T : Datatype) {U : Datatype} → WellFormed M → WellFormed T → withMember x offset M word T ≡ some U → WellFormed U
+member-formed x offset M word (leaf y) f w e = nothing e
+member-formed x offset M word (compound z ms) f w e =
+    let g = when-gave (mayPlace z ms x offset (size M)) (compound z (member x offset M word ms)) e in
     let free = and-true (onFound (λ o T. false) true (memberNamed x ms) && leb (offset + size M) z) (isApart offset (size M) ms) (g .0) in
     let within = and-true (onFound (λ o T. false) true (memberNamed x ms)) (leb (offset + size M) z) (free .0) in
     subst WellFormed (g .1) (
@@ -146,7 +147,7 @@ member-formed x offset M (compound z ms) f w e =
         w .1,
       ),
     )
-member-formed x offset M (array z ds T) f w e = nothing e
+member-formed x offset M word (array z ds T) f w e = nothing e
 
 each-some : (ds : List ℕ) → eachSome ds ≡ true → EachSome ds
 each-some [] e = tt
@@ -204,10 +205,10 @@ line-keeps s (compoundLine z) w e =
     let g = when-gave (leb 1 z && leb z 4096) (compound z empty) (c .1) in
     let h = and-true (leb 1 z) (leb z 4096) (g .0) in
     added s (c .0) w (subst WellFormed (g .1) (record { some = leb-true 1 z (h .0); most = leb-true z 4096 (h .1) }, tt)) (c .2)
-line-keeps s (memberLine x offset k) w e =
-    let c = then-gave (typeNumbered k (older (s .types))) (λ T. onNewest (withMember x offset T) s (s .types)) e in
-    newest-changed (withMember x offset (c .0)) s (s .types)
-    (λ T U f h. member-formed x offset (c .0) T (numbered k (older (s .types)) (all-older (s .types) w) (c .1)) f h) w (c .2)
+line-keeps s (memberLine x offset k word) w e =
+    let c = then-gave (typeNumbered k (older (s .types))) (λ T. onNewest (withMember x offset T word) s (s .types)) e in
+    newest-changed (withMember x offset (c .0) word) s (s .types)
+    (λ T U f h. member-formed x offset (c .0) word T (numbered k (older (s .types)) (all-older (s .types) w) (c .1)) f h) w (c .2)
 line-keeps s (arrayLine k ds) w e =
     let c = then-gave (typeNumbered k (s .types) >>= arrayOf ds) (addType s) e in
     let d = then-gave (typeNumbered k (s .types)) (arrayOf ds) (c .1) in

@@ -11,6 +11,7 @@ use Rattle.layout.specs.declared.Layout.{Layout}
 use Rattle.layout.specs.Layout.{valid}
 use Rattle.layout.specs.Setters.{isInt}
 use Rattle.number.specs.Number.{fitted}
+use Rattle.datatype.specs.declared.Word.{Word}
 use Rattle.datatype.specs.Datatype.{Symbol, Leaf, binary64, Datatype, Members, size, elements}
 use Rattle.datatype.specs.Datatype.Leaf.{atomic, enumeration, real}
 use Rattle.datatype.specs.Datatype.Datatype.{leaf, compound, array}
@@ -71,16 +72,16 @@ withValue x z (array s ds T) = none
 -- the w bytes from offset on overlap no member
 unfoldable pub isApart : ℕ → ℕ → Members → Bool
 isApart offset w empty = true
-isApart offset w (member y p U ms) = (leb (offset + w) p || leb (p + size U) offset) && isApart offset w ms
+isApart offset w (member y p U word ms) = (leb (offset + w) p || leb (p + size U) offset) && isApart offset w ms
 
 -- "with unique names, inside the size, not overlapping"
 abbrev pub mayPlace : ℕ → Members → List ℕ → ℕ → ℕ → Bool
 mayPlace z ms x offset w = onFound (λ o T. false) true (memberNamed x ms) && leb (offset + w) z && isApart offset w ms
 
-abbrev pub withMember : List ℕ → ℕ → Datatype → Datatype → Option Datatype
-withMember x offset T (leaf y) = none
-withMember x offset T (compound z ms) = when (mayPlace z ms x offset (size T)) (compound z (member x offset T ms))
-withMember x offset T (array z ds U) = none
+abbrev pub withMember : List ℕ → ℕ → Datatype → Word → Datatype → Option Datatype
+withMember x offset T word (leaf y) = none
+withMember x offset T word (compound z ms) = when (mayPlace z ms x offset (size T)) (compound z (member x offset T word ms))
+withMember x offset T word (array z ds U) = none
 
 -- ---- arrays
 
@@ -107,7 +108,7 @@ judgedAfter s (atomicLine l) = when (valid l) (leaf (atomic l)) >>= addType s
 judgedAfter s (enumLine k) = typeNumbered k (s .types) >>= enumOf >>= addType s
 judgedAfter s (valueLine x z) = onNewest (withValue x z) s (s .types)
 judgedAfter s (compoundLine z) = when (leb 1 z && leb z 4096) (compound z empty) >>= addType s
-judgedAfter s (memberLine x offset k) = typeNumbered k (older (s .types)) >>= λ T. onNewest (withMember x offset T) s (s .types)
+judgedAfter s (memberLine x offset k word) = typeNumbered k (older (s .types)) >>= λ T. onNewest (withMember x offset T word) s (s .types)
 judgedAfter s (arrayLine k ds) = typeNumbered k (s .types) >>= arrayOf ds >>= addType s
 judgedAfter s (realLine z o) = when (eqb z 8) (leaf (real (binary64 o))) >>= addType s
 

@@ -20,6 +20,7 @@ use Rattle.number.specs.Parts.{signedBy}
 use Rattle.datatype.specs.Datatype.{binary64, Datatype, size, elements}
 use Rattle.datatype.specs.Datatype.Leaf.{atomic, enumeration, real}
 use Rattle.datatype.specs.Datatype.Datatype.{leaf, compound, array}
+use Rattle.datatype.specs.declared.Word.{Word}
 use Rattle.datatype.specs.Datatype.Members.{member}
 use Rattle.text.specs.Field.{when, _>>=_}
 use Rattle.line.specs.Line.Line.{atomicLine, enumLine, valueLine, compoundLine, memberLine, arrayLine, realLine}
@@ -192,32 +193,32 @@ module _ {w : List ℕ} {i m : ℕ} (t : List ℕ) (h : Holds w (suc i) m) where
   unfolding typesAt
   value-line x z = ap (λ (T : Datatype). withValue x z T >>= addRow (soFarAt w t (suc i) m) (typesAt w t i)) newest-is
 
-  member-line : (x : List ℕ) (offset k : ℕ) → k < i
-      → judgedAfter (soFarAt w t (suc i) m) (memberLine x offset k) ≡ (withMember x offset (typeAt w t k) (node (typeAt w t) w t i) >>= addRow (soFarAt w t (suc i) m) (typesAt w t i))
+  member-line : (x : List ℕ) (offset k : ℕ) (word : Word) → k < i
+      → judgedAfter (soFarAt w t (suc i) m) (memberLine x offset k word) ≡ (withMember x offset (typeAt w t k) word (node (typeAt w t) w t i) >>= addRow (soFarAt w t (suc i) m) (typesAt w t i))
   unfolding typesAt
-  member-line x offset k below =
+  member-line x offset k word below =
       rw (type-numbered w t k i, lt-ltb k i below)
-      (ap (λ (T : Datatype). withMember x offset (typeAt w t k) T >>= addRow (soFarAt w t (suc i) m) (typesAt w t i)) newest-is)
+      (ap (λ (T : Datatype). withMember x offset (typeAt w t k) word T >>= addRow (soFarAt w t (suc i) m) (typesAt w t i)) newest-is)
 
-  member-high : (x : List ℕ) (offset k : ℕ) → i ≤ k → judgedAfter (soFarAt w t (suc i) m) (memberLine x offset k) ≡ none
+  member-high : (x : List ℕ) (offset k : ℕ) (word : Word) → i ≤ k → judgedAfter (soFarAt w t (suc i) m) (memberLine x offset k word) ≡ none
   unfolding typesAt
-  member-high x offset k high = rw (type-numbered w t k i, le-ltb k i high)
+  member-high x offset k word high = rw (type-numbered w t k i, le-ltb k i high)
 
 module _ (D : ℕ → Datatype) (w t : List ℕ) (i : ℕ) where
   no-value : (x : List ℕ) (z : ℤ) → (classWord w i ≡ 2 → ⊥) → withValue x z (node D w t i) ≡ none
   no-value x z ne = by-class D w t i (λ (T : Datatype). withValue x z T ≡ none) (λ e. refl) (λ e. refl) (λ e. absurd (ne e)) (λ e. refl) (λ a b c d. refl)
 
-  no-member : (x : List ℕ) (offset : ℕ) (U : Datatype) → (classWord w i ≡ 3 → ⊥) → withMember x offset U (node D w t i) ≡ none
-  no-member x offset U ne = by-class D w t i (λ (T : Datatype). withMember x offset U T ≡ none) (λ e. refl) (λ e. absurd (ne e)) (λ e. refl) (λ e. refl) (λ a b c d. refl)
+  no-member : (x : List ℕ) (offset : ℕ) (U : Datatype) (word : Word) → (classWord w i ≡ 3 → ⊥) → withMember x offset U word (node D w t i) ≡ none
+  no-member x offset U word ne = by-class D w t i (λ (T : Datatype). withMember x offset U word T ≡ none) (λ e. refl) (λ e. absurd (ne e)) (λ e. refl) (λ e. refl) (λ a b c d. refl)
 
 -- no type is there to get a row
 pub value-first : (w t : List ℕ) {n : ℕ} (m : ℕ) (x : List ℕ) (z : ℤ) → n ≡ 0 → judgedAfter (soFarAt w t n m) (valueLine x z) ≡ none
 unfolding typesAt
 value-first w t m x z e = rw e
 
-pub member-first : (w t : List ℕ) {n : ℕ} (m : ℕ) (x : List ℕ) (offset k : ℕ) → n ≡ 0 → judgedAfter (soFarAt w t n m) (memberLine x offset k) ≡ none
+pub member-first : (w t : List ℕ) {n : ℕ} (m : ℕ) (x : List ℕ) (offset k : ℕ) (word : Word) → n ≡ 0 → judgedAfter (soFarAt w t n m) (memberLine x offset k word) ≡ none
 unfolding typesAt typeNumbered
-member-first w t m x offset k e = rw e
+member-first w t m x offset k word e = rw e
 
 -- ---- values
 
@@ -252,39 +253,39 @@ value-judged {w} {v} (suc i) {m} t start len negative d h noted ne e may test ma
 
 -- ---- members
 
-pub member-late : {w : List ℕ} (n : ℕ) {m : ℕ} (t x : List ℕ) (offset k : ℕ) → Holds w n m → (n ≡ 0 → ⊥) → n - 1 ≤ k
-    → judgedAfter (soFarAt w t n m) (memberLine x offset k) ≡ none
-member-late zero t x offset k h ne high = absurd (ne refl)
-member-late (suc i) t x offset k h ne high = member-high t h x offset k (rw sub-one at high)
+pub member-late : {w : List ℕ} (n : ℕ) {m : ℕ} (t x : List ℕ) (offset k : ℕ) (word : Word) → Holds w n m → (n ≡ 0 → ⊥) → n - 1 ≤ k
+    → judgedAfter (soFarAt w t n m) (memberLine x offset k word) ≡ none
+member-late zero t x offset k word h ne high = absurd (ne refl)
+member-late (suc i) t x offset k word h ne high = member-high t h x offset k word (rw sub-one at high)
 
-pub member-other : {w : List ℕ} (n : ℕ) {m : ℕ} (t x : List ℕ) (offset k : ℕ) → Holds w n m → (n ≡ 0 → ⊥) → k < n - 1 → (classWord w (n - 1) ≡ 3 → ⊥)
-    → judgedAfter (soFarAt w t n m) (memberLine x offset k) ≡ none
-member-other zero t x offset k h ne below other = absurd (ne refl)
-member-other {w} (suc i) t x offset k h ne below other =
-    member-line t h x offset k (rw sub-one at below) ∙ rw (no-member (typeAt w t) w t i x offset (typeAt w t k) (rw sub-one at other))
+pub member-other : {w : List ℕ} (n : ℕ) {m : ℕ} (t x : List ℕ) (offset k : ℕ) (word : Word) → Holds w n m → (n ≡ 0 → ⊥) → k < n - 1 → (classWord w (n - 1) ≡ 3 → ⊥)
+    → judgedAfter (soFarAt w t n m) (memberLine x offset k word) ≡ none
+member-other zero t x offset k word h ne below other = absurd (ne refl)
+member-other {w} (suc i) t x offset k word h ne below other =
+    member-line t h x offset k word (rw sub-one at below) ∙ rw (no-member (typeAt w t) w t i x offset (typeAt w t k) word (rw sub-one at other))
 
-member-in : {w : List ℕ} (n : ℕ) {m : ℕ} (t x : List ℕ) (offset k : ℕ) → Holds w n m → (n ≡ 0 → ⊥) → k < n - 1 → classWord w (n - 1) ≡ 3
-    → judgedAfter (soFarAt w t n m) (memberLine x offset k)
+member-in : {w : List ℕ} (n : ℕ) {m : ℕ} (t x : List ℕ) (offset k : ℕ) (word : Word) → Holds w n m → (n ≡ 0 → ⊥) → k < n - 1 → classWord w (n - 1) ≡ 3
+    → judgedAfter (soFarAt w t n m) (memberLine x offset k word)
     ≡ (when (mayPlace (sizeWord w (n - 1)) (membersAt (typeAt w t) w t (firstWord w (n - 1)) (rowsWord w (n - 1))) x offset (sizeWord w k))
-    (compound (sizeWord w (n - 1)) (member x offset (typeAt w t k) (membersAt (typeAt w t) w t (firstWord w (n - 1)) (rowsWord w (n - 1)))))
+    (compound (sizeWord w (n - 1)) (member x offset (typeAt w t k) word (membersAt (typeAt w t) w t (firstWord w (n - 1)) (rowsWord w (n - 1)))))
     >>= addRow (soFarAt w t n m) (typesAt w t (n - 1)))
-member-in zero t x offset k h ne below e = absurd (ne refl)
-member-in {w} (suc i) t x offset k h ne below e =
+member-in zero t x offset k word h ne below e = absurd (ne refl)
+member-in {w} (suc i) t x offset k word h ne below e =
     let lower : k < i = rw sub-one at below in
-    member-line t h x offset k lower ∙ rw (sub-one, node-compound (typeAt w t) w t i (rw sub-one at e), type-size t h k (omega arith)) refl
+    member-line t h x offset k word lower ∙ rw (sub-one, node-compound (typeAt w t) w t i (rw sub-one at e), type-size t h k (omega arith)) refl
 
-pub member-refused : {w : List ℕ} (n : ℕ) {m : ℕ} {b : Bool} (t x : List ℕ) (offset k : ℕ) {width : ℕ} → Holds w n m → (n ≡ 0 → ⊥) → k < n - 1 → classWord w (n - 1) ≡ 3 → width ≡ sizeWord w k
+pub member-refused : {w : List ℕ} (n : ℕ) {m : ℕ} {b : Bool} (t x : List ℕ) (offset k : ℕ) (word : Word) {width : ℕ} → Holds w n m → (n ≡ 0 → ⊥) → k < n - 1 → classWord w (n - 1) ≡ 3 → width ≡ sizeWord w k
     → b ≡ mayPlace (sizeWord w (n - 1)) (membersAt (typeAt w t) w t (firstWord w (n - 1)) (rowsWord w (n - 1))) x offset width → not b ≡ true
-    → judgedAfter (soFarAt w t n m) (memberLine x offset k) ≡ none
-member-refused n t x offset k h ne below e size may test = member-in n t x offset k h ne below e ∙ rw (← size, fails may test)
+    → judgedAfter (soFarAt w t n m) (memberLine x offset k word) ≡ none
+member-refused n t x offset k word h ne below e size may test = member-in n t x offset k word h ne below e ∙ rw (← size, fails may test)
 
-pub member-judged : {w v u r : List ℕ} (n : ℕ) {m mark : ℕ} {j : Judged} {b : Bool} (t : List ℕ) (start len offset k : ℕ) {width : ℕ} → Holds w n m → Noted w t n m → (n ≡ 0 → ⊥) → k < n - 1 → classWord w (n - 1) ≡ 3 → width ≡ sizeWord w k
+pub member-judged : {w v u r : List ℕ} (n : ℕ) {m mark : ℕ} {j : Judged} {b : Bool} (t : List ℕ) (start len offset k : ℕ) (word : Word) {width : ℕ} → Holds w n m → Noted w t n m → (n ≡ 0 → ⊥) → k < n - 1 → classWord w (n - 1) ≡ 3 → width ≡ sizeWord w k
     → b ≡ mayPlace (sizeWord w (n - 1)) (membersAt (typeAt w t) w t (firstWord w (n - 1)) (rowsWord w (n - 1))) (bytesAt t start len) offset width → not b ≡ false
-    → mark ≡ markOf (bytesAt t start len) → r ≡ memberRecord start len offset k → RowAdded w v mark n m r j → u ≡ endRaised v (n - 1) (offset + width)
-    → Judges u t (judgedAfter (soFarAt w t n m) (memberLine (bytesAt t start len) offset k)) j
+    → mark ≡ markOf (bytesAt t start len) → r ≡ memberRecord start len offset k word → RowAdded w v mark n m r j → u ≡ endRaised v (n - 1) (offset + width)
+    → Judges u t (judgedAfter (soFarAt w t n m) (memberLine (bytesAt t start len) offset k word)) j
 unfolding memberRecord
-member-judged zero t start len offset k h noted ne below e size may test marked er added ended = absurd (ne refl)
-member-judged {w} {v} (suc i) {m} t start len offset k {width} h noted ne below e size may test marked er added ended =
+member-judged zero t start len offset k word h noted ne below e size may test marked er added ended = absurd (ne refl)
+member-judged {w} {v} (suc i) {m} t start len offset k word {width} h noted ne below e size may test marked er added ended =
     let class : classWord w i ≡ 3 = rw sub-one at e in
-    rw (member-in (suc i) t (bytesAt t start len) offset k h ne below e, ← size, holds may test, sub-one)
-    (rowed {e = offset + width} t h noted marked (rw er at added) (λ long. rw (ended, sub-one) (end-raised v i (offset + width) (h .types) long)) refl refl (λ x. (rw sub-one at below, omega (arith, size))) (λ x. member-made t start len offset k h x (typeAt w t) class))
+    rw (member-in (suc i) t (bytesAt t start len) offset k word h ne below e, ← size, holds may test, sub-one)
+    (rowed {e = offset + width} t h noted marked (rw er at added) (λ long. rw (ended, sub-one) (end-raised v i (offset + width) (h .types) long)) refl refl (λ x. (rw sub-one at below, omega (arith, size))) (λ x. member-made t start len offset k word h x (typeAt w t) class))

@@ -30,6 +30,7 @@ use Rattle.line.specs.Line.{lineOf}
 use Rattle.line.specs.Line.Line.{atomicLine, enumLine, valueLine, compoundLine, memberLine, arrayLine, realLine}
 use Rattle.line.specs.declared.Line.{Line}
 use Rattle.line.specs.declared.Line.the-variants.{Value, Member}
+use Rattle.datatype.specs.declared.Word.{Word}
 use Rattle.line.specs.declared.ReadLine.{ReadLine}
 use Rattle.line.specs.Column.{holdable}
 use Rattle.line.specs.Read.{nameWithin, namesWithin, readable, says, nextOf, Reading, asReading, reading, readingTo, lineReading}
@@ -59,7 +60,7 @@ name-inside t a e h =
 pub value-inside : (t : List ℕ) (l : Line) {a e d n : ℕ} {b : Bool} → namesWithin t l ≡ true → l ≡ Value a e b d n → (a < e) × (e ≤ length t)
 value-inside t l {a} {e} h q = name-inside t a e (rw q at h)
 
-pub member-inside : (t : List ℕ) (l : Line) {a e o k n : ℕ} → namesWithin t l ≡ true → l ≡ Member a e o k n → (a < e) × (e ≤ length t)
+pub member-inside : (t : List ℕ) (l : Line) {a e o k : ℕ} {word : Word} {n : ℕ} → namesWithin t l ≡ true → l ≡ Member a e o k word n → (a < e) × (e ≤ length t)
 member-inside t l {a} {e} h q = name-inside t a e (rw q at h)
 
 -- ---- a line that no answer can hold is refused
@@ -100,7 +101,7 @@ unreadable s (atomicLine l) w e = absurd (false≢true (sym e))
 unreadable s (enumLine base) w e = absurd (false≢true (sym e))
 unreadable s (valueLine x z) w e = value-refused s (s .types) x z w e
 unreadable s (compoundLine z) w e = absurd (false≢true (sym e))
-unreadable s (memberLine x offset k) w e = absurd (false≢true (sym e))
+unreadable s (memberLine x offset k word) w e = absurd (false≢true (sym e))
 unreadable s (arrayLine base ds) w e = array-refused s (typeNumbered base (s .types)) base ds e
 unreadable s (realLine z o) w e = absurd (false≢true (sym e))
 

@@ -29,7 +29,7 @@ unfolding keepsSymbols
 keeps-parts =
     record {
       none = λ ss. refl;
-      more = λ ss x offset T ms. refl;
+      more = λ ss x offset T word ms. refl;
       compounds = λ z y ss ds. refl;
       arrays = λ z y es ds S T e. rw e refl;
     }

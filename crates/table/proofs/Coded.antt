@@ -10,9 +10,11 @@ use Rattle.layout.specs.declared.Class.the-variants.{Int, Bits}
 use Rattle.layout.specs.declared.Pad.{Pad}
 use Rattle.layout.specs.declared.Pad.the-variants.{Zero, One, Keep}
 use Rattle.layout.specs.declared.Layout.{Layout}
-use Rattle.table.specs.Table.{orderOf, padOf, flagOf, classOf, typeWord, layoutAt}
+use Rattle.datatype.specs.declared.Word.{Word}
+use Rattle.datatype.specs.declared.Word.the-variants.{Silent, Clamp, Stop}
+use Rattle.table.specs.Table.{orderOf, padOf, flagOf, classOf, wordOf, typeWord, layoutAt}
 use Rattle.table.specs.Words.{Reads}
-use Rattle.table.specs.Records.{orderCode, padCode, flagCode, classCode}
+use Rattle.table.specs.Records.{orderCode, padCode, flagCode, classCode, wordCode}
 
 pub order-other : (k : ℕ) → (k ≡ 0 → ⊥) → BE ≡ orderOf k
 order-other zero h = absurd (h refl)
@@ -22,6 +24,11 @@ pub pad-other : (k : ℕ) → (k ≡ 0 → ⊥) → (k ≡ 1 → ⊥) → Keep �
 pad-other zero h g = absurd (h refl)
 pad-other (suc zero) h g = absurd (g refl)
 pad-other (suc (suc k)) h g = refl
+
+pub word-other : (k : ℕ) → (k ≡ 0 → ⊥) → (k ≡ 1 → ⊥) → Stop ≡ wordOf k
+word-other zero h g = absurd (h refl)
+word-other (suc zero) h g = absurd (g refl)
+word-other (suc (suc k)) h g = refl
 
 pub flag-other : (k : ℕ) → (k ≡ 0 → ⊥) → true ≡ flagOf k
 flag-other zero h = absurd (h refl)
@@ -35,6 +42,11 @@ pub pad-back : (x : Pad) → padOf (padCode x) ≡ x
 pad-back Zero = refl
 pad-back One = refl
 pad-back Keep = refl
+
+pub word-back : (x : Word) → wordOf (wordCode x) ≡ x
+word-back Silent = refl
+word-back Clamp = refl
+word-back Stop = refl
 
 pub flag-back : (x : Bool) → flagOf (flagCode x) ≡ x
 flag-back true = refl

@@ -10,7 +10,7 @@ use lib.Dec.{eqb, lit<}
 use Rattle.datatype.specs.Datatype.{Symbol, Datatype, Members}
 use Rattle.datatype.specs.Datatype.Datatype.{leaf, compound, array}
 use Rattle.datatype.specs.Datatype.Members.{empty, member}
-use Rattle.table.specs.Table.{typeWord, rowWord, classWord, sizeWord, baseWord, firstWord, rowsWord, offsetWord, memberTypeWord, layoutAt, nameAt, valueAt, symbolsAt, leafOfType, membersAt, dimensionsAt, node, decode, typeAt, typesAt, Low}
+use Rattle.table.specs.Table.{typeWord, rowWord, classWord, sizeWord, baseWord, firstWord, rowsWord, offsetWord, memberTypeWord, wordAtRow, layoutAt, nameAt, valueAt, symbolsAt, leafOfType, membersAt, dimensionsAt, node, decode, typeAt, typesAt, Low}
 
 -- w and v agree on the types below n and the rows below m
 pub record Agree (w v : List ℕ) (n m : ℕ) : Type 0 where
@@ -24,7 +24,7 @@ module _ (w t : List ℕ) (D E : ℕ → Datatype) where
   unfolding membersAt
   members-cong first zero h = refl
   members-cong first (suc n) h =
-      ap₂ (λ (T : Datatype) (ms : Members). member (nameAt w t (first + n)) (offsetWord w (first + n)) T ms)
+      ap₂ (λ (T : Datatype) (ms : Members). member (nameAt w t (first + n)) (offsetWord w (first + n)) T (wordAtRow w (first + n)) ms)
       (h (first + n) (omega arith) (omega arith))
       (members-cong first n (λ j a b. h j a (omega arith)))
 
@@ -80,8 +80,14 @@ module _ (w v t : List ℕ) {n m : ℕ} (ag : Agree w v n m) where
   members-frame D first zero h = refl
   members-frame D first (suc k) h =
       let x : first + k < m = omega arith in
-      rw (ag .rows (first + k) 0 x (lit< tt), ag .rows (first + k) 1 x (lit< tt), ag .rows (first + k) 2 x (lit< tt), ag .rows (first + k) 3 x (lit< tt))
-      (ap (member (nameAt v t (first + k)) (offsetWord v (first + k)) (D (memberTypeWord v (first + k)))) (members-frame D first k (omega arith)))
+      rw (
+        ag .rows (first + k) 0 x (lit< tt),
+        ag .rows (first + k) 1 x (lit< tt),
+        ag .rows (first + k) 2 x (lit< tt),
+        ag .rows (first + k) 3 x (lit< tt),
+        ag .rows (first + k) 5 x (lit< tt),
+      )
+      (ap (member (nameAt v t (first + k)) (offsetWord v (first + k)) (D (memberTypeWord v (first + k))) (wordAtRow v (first + k))) (members-frame D first k (omega arith)))
 
   pub symbols-frame : (first k : ℕ) → first + k ≤ m → symbolsAt w t first k ≡ symbolsAt v t first k
   unfolding symbolsAt

@@ -14,13 +14,14 @@ use Rattle.layout.specs.declared.Class.{Class}
 use Rattle.layout.specs.declared.Class.the-variants.{Int, Bits}
 use Rattle.layout.specs.declared.Layout.{Layout}
 use Rattle.number.specs.Parts.{signedBy}
+use Rattle.datatype.specs.declared.Word.{Word}
 use Rattle.datatype.specs.Datatype.{Datatype, size}
 use Rattle.datatype.specs.Datatype.Leaf.{atomic, enumeration, real}
 use Rattle.datatype.specs.Datatype.Datatype.{leaf, compound, array}
 use Rattle.datatype.specs.Datatype.Members.{empty, member}
-use Rattle.table.specs.Table.{typeWord, classOf, flagOf, classWord, sizeWord, baseWord, firstWord, rowsWord, layoutAt, bytesAt, symbolsAt, leafOfType, membersAt, upToZero, dimensionsAt, node, Holds}
+use Rattle.table.specs.Table.{typeWord, classOf, flagOf, wordOf, classWord, sizeWord, baseWord, firstWord, rowsWord, layoutAt, bytesAt, symbolsAt, leafOfType, membersAt, upToZero, dimensionsAt, node, Holds}
 use Rattle.table.specs.Records.{classCode, layoutRecord, atomicRecord, realRecord, enumRecord, compoundRecord, arrayRecord, valueRecord, memberRecord, rowAdded}
-use Rattle.table.proofs.Coded.{order-back, pad-back, flag-back, class-back}
+use Rattle.table.proofs.Coded.{order-back, pad-back, flag-back, class-back, word-back}
 use Rattle.table.proofs.Frames.{Agree, members-frame, symbols-frame}
 use Rattle.table.proofs.Stores.{type-made, row-made, row-before, row-types, row-counted}
 
@@ -172,7 +173,7 @@ module _ {w : List ℕ} {i m : ℕ} (t r : List ℕ) (h : Holds w (suc i) m) (wh
   -- a compound gets a member
   member-added : (D : ℕ → Datatype) → classWord w i ≡ 3
       → node D (rowAdded w i m r) t i
-      ≡ compound (sizeWord w i) (member (bytesAt t (getD r 0 0) (getD r 1 0)) (getD r 2 0) (D (getD r 3 0)) (membersAt D w t (firstWord w i) (rowsWord w i)))
+      ≡ compound (sizeWord w i) (member (bytesAt t (getD r 0 0) (getD r 1 0)) (getD r 2 0) (D (getD r 3 0)) (wordOf (getD r 5 0)) (membersAt D w t (firstWord w i) (rowsWord w i)))
   unfolding membersAt
   member-added D e =
       let v = rowAdded w i m r in
@@ -188,6 +189,7 @@ module _ {w : List ℕ} {i m : ℕ} (t r : List ℕ) (h : Holds w (suc i) m) (wh
         made 1 (lit< tt),
         made 2 (lit< tt),
         made 3 (lit< tt),
+        made 5 (lit< tt),
         members-frame w v t ag D (firstWord w i) (rowsWord w i) (omega (arith, last)),
       ) refl
 
@@ -214,11 +216,13 @@ module _ {w : List ℕ} {i m : ℕ} (t r : List ℕ) (h : Holds w (suc i) m) (wh
         symbols-frame w v t ag (firstWord w i) (rowsWord w i) (omega (arith, last)),
       ) refl
 
-pub member-made : {w : List ℕ} {i m : ℕ} (t : List ℕ) (start len offset k : ℕ) → Holds w (suc i) m → m < 256 → (D : ℕ → Datatype) → classWord w i ≡ 3
-    → node D (rowAdded w i m (memberRecord start len offset k)) t i
-    ≡ compound (sizeWord w i) (member (bytesAt t start len) offset (D k) (membersAt D w t (firstWord w i) (rowsWord w i)))
+pub member-made : {w : List ℕ} {i m : ℕ} (t : List ℕ) (start len offset k : ℕ) (word : Word) → Holds w (suc i) m → m < 256 → (D : ℕ → Datatype) → classWord w i ≡ 3
+    → node D (rowAdded w i m (memberRecord start len offset k word)) t i
+    ≡ compound (sizeWord w i) (member (bytesAt t start len) offset (D k) word (membersAt D w t (firstWord w i) (rowsWord w i)))
 unfolding memberRecord
-member-made t start len offset k h room D e = member-added t (memberRecord start len offset k) h refl room D e
+member-made {w} {i} t start len offset k word h room D e =
+    member-added t (memberRecord start len offset k word) h refl room D e
+    ∙ ap (λ (v : Word). compound (sizeWord w i) (member (bytesAt t start len) offset (D k) v (membersAt D w t (firstWord w i) (rowsWord w i)))) (word-back word)
 
 pub value-made : {w : List ℕ} {i m : ℕ} (t : List ℕ) (start len : ℕ) (negative : Bool) (d : ℕ) → Holds w (suc i) m → m < 256 → (D : ℕ → Datatype) → classWord w i ≡ 2
     → node D (rowAdded w i m (valueRecord start len negative d)) t i

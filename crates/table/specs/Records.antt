@@ -11,6 +11,8 @@ use Rattle.layout.specs.declared.Class.the-variants.{Int, Bits}
 use Rattle.layout.specs.declared.Pad.{Pad}
 use Rattle.layout.specs.declared.Pad.the-variants.{Zero, One, Keep}
 use Rattle.layout.specs.declared.Layout.{Layout}
+use Rattle.datatype.specs.declared.Word.{Word}
+use Rattle.datatype.specs.declared.Word.the-variants.{Silent, Clamp, Stop}
 use Rattle.table.specs.Table.{firstWord, rowsWord}
 
 abbrev pub orderCode : Order → ℕ
@@ -29,6 +31,11 @@ flagCode true = 1
 abbrev pub classCode : Class → ℕ
 classCode Int = 0
 classCode Bits = 1
+
+abbrev pub wordCode : Word → ℕ
+wordCode Silent = 0
+wordCode Clamp = 1
+wordCode Stop = 2
 
 -- class c, the layout l, no base, no rows from first on, no dimensions
 unfoldable pub layoutRecord : ℕ → Layout → ℕ → List ℕ
@@ -56,8 +63,8 @@ unfoldable pub valueRecord : ℕ → ℕ → Bool → ℕ → List ℕ
 valueRecord start len negative distance =
     start ∷ len ∷ flagCode negative ∷ distance % 4294967296 ∷ distance / 4294967296 ∷ 0 ∷ 0 ∷ 0 ∷ []
 
-unfoldable pub memberRecord : ℕ → ℕ → ℕ → ℕ → List ℕ
-memberRecord start len offset kind = start ∷ len ∷ offset ∷ kind ∷ 0 ∷ 0 ∷ 0 ∷ 0 ∷ []
+unfoldable pub memberRecord : ℕ → ℕ → ℕ → ℕ → Word → List ℕ
+memberRecord start len offset kind word = start ∷ len ∷ offset ∷ kind ∷ 0 ∷ wordCode word ∷ 0 ∷ 0 ∷ []
 
 -- w with the record r of row j, and one row more of type i
 unfoldable pub rowAdded : List ℕ → ℕ → ℕ → List ℕ → List ℕ

@@ -1,7 +1,8 @@
 -- Document 01, "A lent working table of 32-bit words holds the read sheets": the datatypes that half a table, 4,096 words, stands for beside its sheet's text.
 -- The record of type i has 16 words from word 16 × i on: class (0 int, 1 bits, 2 enum, 3 compound, 4 array, 5 real), size, order, offset, precision, lsb, msb, signed,
 -- base, first row, rows, four dimensions (0 for none), and one that is free. The record of row j has 8 words from word 1,024 + 8 × j on: where its name starts in
--- the text, the name's length, and of a member its byte offset and its type's number, of a value its sign and the two halves of its distance; three are free.
+-- the text, the name's length, and of a member its byte offset, its type's number and, in word 5, its word (0 none, 1 clamp, 2 stop), of a value its sign and the two
+-- halves of its distance; the others are free, and 0.
 -- From word 3,072 on a half has no record: no type and no row depends on the words there, in which the reader of sheets keeps its notes.
 -- Any words stand for some datatypes: a word outside the records reads as 0.
 use mathlib.Core.Bool.{Bool, true, false, cond}
@@ -19,6 +20,8 @@ use Rattle.layout.specs.declared.Pad.{Pad}
 use Rattle.layout.specs.declared.Pad.the-variants.{Zero, One, Keep}
 use Rattle.layout.specs.declared.Layout.{Layout}
 use Rattle.number.specs.Parts.{signedBy}
+use Rattle.datatype.specs.declared.Word.{Word}
+use Rattle.datatype.specs.declared.Word.the-variants.{Silent, Clamp, Stop}
 use Rattle.datatype.specs.Datatype.{Symbol, Leaf, Datatype, Members}
 pub use Rattle.datatype.specs.Datatype.{upToZero}
 use Rattle.datatype.specs.Datatype.Leaf.{atomic, enumeration, real}
@@ -74,6 +77,15 @@ flagOf (suc k) = true
 abbrev pub classOf : ℕ → Class
 classOf k = cond (eqb k 1) Bits Int
 
+abbrev pub wordOf : ℕ → Word
+wordOf zero = Silent
+wordOf (suc zero) = Clamp
+wordOf (suc (suc k)) = Stop
+
+-- the word of the member in row j
+abbrev pub wordAtRow : List ℕ → ℕ → Word
+wordAtRow w j = wordOf (rowWord w j 5)
+
 -- ---- leaves
 
 -- the layout in the record of type i
@@ -121,7 +133,7 @@ leafOfType w t i =
 unfoldable pub membersAt : (ℕ → Datatype) → List ℕ → List ℕ → ℕ → ℕ → Members
 membersAt D w t first zero = empty
 membersAt D w t first (suc n) =
-    member (nameAt w t (first + n)) (offsetWord w (first + n)) (D (memberTypeWord w (first + n))) (membersAt D w t first n)
+    member (nameAt w t (first + n)) (offsetWord w (first + n)) (D (memberTypeWord w (first + n))) (wordAtRow w (first + n)) (membersAt D w t first n)
 
 abbrev pub dimensionsAt : List ℕ → ℕ → List ℕ
 dimensionsAt w i = upToZero (typeWord w i 11 ∷ typeWord w i 12 ∷ typeWord w i 13 ∷ typeWord w i 14 ∷ [])

@@ -1,8 +1,9 @@
 // The numbers that stand in a record for a layout's words.
 ghost use mathlib.Core.Path.{_≡_};
-ghost use Rattle.table.specs.Table.{orderOf, padOf, flagOf, classOf};
-ghost use Rattle.table.specs.Records.{orderCode, padCode, flagCode, classCode};
+ghost use Rattle.table.specs.Table.{orderOf, padOf, flagOf, classOf, wordOf};
+ghost use Rattle.table.specs.Records.{orderCode, padCode, flagCode, classCode, wordCode};
 use bits::Order;
+use datatype::Word;
 use layout::Class;
 use layout::Pad;
 
@@ -67,5 +68,27 @@ pub fn class_code(x: Class) -> u32
     match x {
         Class::Int => 0,
         Class::Bits => 1,
+    }
+}
+
+pub fn word_of(k: usize) -> Word
+    ensures { λ r. ⌜ r ≡ wordOf k ⌝ }
+{
+    if k == 0 {
+        Word::Silent
+    } else if k == 1 {
+        Word::Clamp
+    } else {
+        Word::Stop
+    }
+}
+
+pub fn word_code(x: Word) -> u32
+    ensures { λ r. ⌜ r ≡ wordCode x ⌝ }
+{
+    match x {
+        Word::Silent => 0,
+        Word::Clamp => 1,
+        Word::Stop => 2,
     }
 }

@@ -58,7 +58,7 @@ pub const REAL: usize = 5;
 
 pub const CLASSES: usize = 6;
 
-// The words of a row's record: where the name starts in the text and its length; of a member its byte offset and its type's number; of a value its sign and
+// The words of a row's record: where the name starts in the text and its length; of a member its byte offset, its type's number and its word; of a value its sign and
 // the two halves of its distance from 0, or from -1 where it is negative.
 pub const NAME: usize = 0;
 
@@ -67,6 +67,8 @@ pub const NAME_LENGTH: usize = 1;
 pub const MEMBER_OFFSET: usize = 2;
 
 pub const MEMBER_TYPE: usize = 3;
+
+pub const MEMBER_WORD: usize = 5;
 
 pub const VALUE_SIGN: usize = 2;
 

@@ -2,11 +2,13 @@
 ghost use mathlib.Core.Path.{_≡_};
 ghost use Prim.Native.Nat.{_<_};
 ghost use Rattle.table.specs.Records.{layoutRecord, atomicRecord, realRecord, enumRecord, compoundRecord, arrayRecord, valueRecord, memberRecord};
+use datatype::Word;
 use layout::Layout;
 use table::codes::class_code;
 use table::codes::flag_code;
 use table::codes::order_code;
 use table::codes::pad_code;
+use table::codes::word_code;
 
 // Class words.
 const ENUM: u32 = 2;
@@ -114,8 +116,9 @@ pub fn value_record(start: u32, len: u32, negative: bool, distance: u64) -> [u32
     [start, len, sign, low, high, 0, 0, 0]
 }
 
-pub fn member_record(start: u32, len: u32, offset: u32, kind: u32) -> [u32; 8]
-    ensures { λ r. ⌜ r ≡ memberRecord start len offset kind ⌝ }
+pub fn member_record(start: u32, len: u32, offset: u32, kind: u32, word: Word) -> [u32; 8]
+    ensures { λ r. ⌜ r ≡ memberRecord start len offset kind word ⌝ }
 {
-    [start, len, offset, kind, 0, 0, 0, 0]
+    let said = word_code(word);
+    [start, len, offset, kind, 0, said, 0, 0]
 }

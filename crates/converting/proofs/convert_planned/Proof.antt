@@ -1,9 +1,15 @@
 -- `converting::convert_planned` meets its contract. Assumes nothing.
-use native.Mathlib.Omega.{arith}
+use mathlib.Core.Path.{_≡_, ap, _∙_}
+use mathlib.Core.List.{List}
+use Prim.Native.Nat.{ℕ}
 use borrow.Author.Needs.{needs}
+use Rattle.datatype.proofs.Stopping.{stopping}
+use Rattle.loops.specs.Stops.{stopBy}
+use Rattle.records.specs.Plan.{Entry}
 use Rattle.conversion.specs.Call.{formOf, sourceOf, backgroundOf}
 use Rattle.conversion.proofs.Checking.{target-is}
-use Rattle.conversion.proofs.Parts.{clamps, stops-at, goes-on}
+use Rattle.conversion.proofs.Parts.{converts, stops-with, stop-said, none-said, decided-none, decided-all}
+use Rattle.obeying.proofs.StopMatches.{whole-plan}
 use Rattle.converting.proofs.convert_planned.Statement.{statement}
 use Rattle.converting.proofs.convert_planned.Tie as tie
 
@@ -11,9 +17,10 @@ returns : tie.Need-returns
 returns c =
     let t = c .before .before .before .before in
     let a = t .before .before .before .before .before .before .before .args in
-    λ j.
-    clamps (formOf (a .in-place)) (a .count) (sourceOf (a .in-place) (a .out .now) (a .other .now)) (backgroundOf (a .in-place) (a .out .now) (a .other .now)) (j .source) (j .destination) _ _ _
-    (t .if1 .taken) (c .before .before .convert-records .ensures j)
+    let source = sourceOf (a .in-place) (a .out .now) (a .other .now) in
+    λ j h few decided.
+    converts (formOf (a .in-place)) (a .count) source (backgroundOf (a .in-place) (a .out .now) (a .other .now)) (j .source) (j .destination) h _ _
+    (decided-none h (j .source) (j .destination) (a .count) source (t .if1 .taken) decided) (c .before .before .convert-records .ensures j)
 
 first-stop-requires : tie.Need-first-stop-requires
 first-stop-requires c κs =
@@ -31,10 +38,15 @@ returns-2 c =
     let t = stop .before .before in
     let x = t .before .before .before .before .before .before .before in
     let a = x .args in
-    λ j.
+    let source = sourceOf (a .in-place) (a .out .now) (a .other .now) in
+    λ j h few decided.
     rw (target-is (a .in-place) (a .out .now) (a .other .now)) at
-    (stops-at (formOf (a .in-place)) (a .count) (sourceOf (a .in-place) (a .out .now) (a .other .now)) (backgroundOf (a .in-place) (a .out .now) (a .other .now)) (j .source) (j .destination) (a .handling) (a .source-size)
-    (omega (arith, t .if1 .left, x .pre .2)) (j .sourceSize) (stop .first-stop .result) (stop .first-stop .ensures _ j) (c .before .i .given .1))
+    (stops-with (formOf (a .in-place)) (a .count) source (backgroundOf (a .in-place) (a .out .now) (a .other .now)) (j .source) (j .destination) h
+    (stop-said (formOf (a .in-place)) (a .count) source (backgroundOf (a .in-place) (a .out .now) (a .other .now)) (j .source) (j .destination) h (a .source-size) few (j .sourceSize) (stop .first-stop .result)
+    (stop .first-stop .ensures _ j
+    ∙ ap (λ (es : List Entry). stopBy es (a .source-size) source 0 (a .count))
+    (whole-plan h (j .destination) (j .destinationFormed) (decided-all h (j .source) (j .destination) (a .count) source (a .scan) (t .if1 .left) decided) (j .source)))
+    (c .before .i .given .1)))
 
 returns-3 : tie.Need-returns-3
 returns-3 c =
@@ -43,9 +55,15 @@ returns-3 c =
     let t = stop .before .before in
     let x = t .before .before .before .before .before .before .before in
     let a = x .args in
-    λ j.
-    goes-on (formOf (a .in-place)) (a .count) (sourceOf (a .in-place) (a .out .now) (a .other .now)) (backgroundOf (a .in-place) (a .out .now) (a .other .now)) (j .source) (j .destination) _ _
-    (omega (arith, t .if1 .left, x .pre .2)) (j .sourceSize) _ (stop .first-stop .ensures _ j) _ _ (told .enum-told .given .1) (c .before .before .convert-records2 .ensures j)
+    let source = sourceOf (a .in-place) (a .out .now) (a .other .now) in
+    λ j h few decided.
+    converts (formOf (a .in-place)) (a .count) source (backgroundOf (a .in-place) (a .out .now) (a .other .now)) (j .source) (j .destination) h _ _
+    (none-said (formOf (a .in-place)) (a .count) source (backgroundOf (a .in-place) (a .out .now) (a .other .now)) (j .source) (j .destination) h (a .source-size) few (j .sourceSize) (stop .first-stop .result)
+    (stop .first-stop .ensures _ j
+    ∙ ap (λ (es : List Entry). stopBy es (a .source-size) source 0 (a .count))
+    (whole-plan h (j .destination) (j .destinationFormed) (decided-all h (j .source) (j .destination) (a .count) source (a .scan) (t .if1 .left) decided) (j .source)))
+    (told .enum-told .given .1))
+    (c .before .before .convert-records2 .ensures j)
 
 pub convert-planned-spec : {M : Type 1} → statement M
 convert-planned-spec =

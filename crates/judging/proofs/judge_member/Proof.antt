@@ -13,19 +13,19 @@ use Rattle.judging.proofs.judge_member.Tie as tie
 returns : tie.Need-returns
 returns c =
     let a = c .before .before .before .args in
-    refused (c .before .before .before .pre .0) (member-first (a .half .now) (a .sheet .now) _ (bytesAt (a .sheet .now) (a .start) (a .len)) (a .offset) (a .kind) (c .if1 .taken))
+    refused (c .before .before .before .pre .0) (member-first (a .half .now) (a .sheet .now) _ (bytesAt (a .sheet .now) (a .start) (a .len)) (a .offset) (a .kind) (a .word) (c .if1 .taken))
 
 returns-2 : tie.Need-returns-2
 returns-2 c =
     let a = c .before .before .before .before .args in
     refused (c .before .before .before .before .pre .0)
-    (member-late (a .types) (a .sheet .now) (bytesAt (a .sheet .now) (a .start) (a .len)) (a .offset) (a .kind) (c .before .before .before .before .pre .0) (c .before .if1 .left) (c .if2 .taken))
+    (member-late (a .types) (a .sheet .now) (bytesAt (a .sheet .now) (a .start) (a .len)) (a .offset) (a .kind) (a .word) (c .before .before .before .before .pre .0) (c .before .if1 .left) (c .if2 .taken))
 
 returns-3 : tie.Need-returns-3
 returns-3 c =
     let a = c .before .before .before .before .before .before .before .args in
     refused (c .before .before .before .before .before .before .before .pre .0)
-    (member-other (a .types) (a .sheet .now) (bytesAt (a .sheet .now) (a .start) (a .len)) (a .offset) (a .kind) (c .before .before .before .before .before .before .before .pre .0) (c .before .before .before .before .if1 .left) (c .before .before .before .if2 .left)
+    (member-other (a .types) (a .sheet .now) (bytesAt (a .sheet .now) (a .start) (a .len)) (a .offset) (a .kind) (a .word) (c .before .before .before .before .before .before .before .pre .0) (c .before .before .before .before .if1 .left) (c .before .before .before .if2 .left)
     (λ e. c .if3 .taken (c .before .type-word .ensures .is ∙ e)))
 
 may-add-requires : tie.Need-may-add-requires
@@ -49,7 +49,7 @@ returns-4 c =
     let s = c .before .before .before .before .before .before .before .before .before .before .before .before .before in
     let a = s .args in
     refused (s .pre .0)
-    (member-refused (a .types) (a .sheet .now) (bytesAt (a .sheet .now) (a .start) (a .len)) (a .offset) (a .kind) (s .pre .0) (c .before .before .before .before .before .before .before .before .before .before .if1 .left) (c .before .before .before .before .before .before .before .before .before .if2 .left)
+    (member-refused (a .types) (a .sheet .now) (bytesAt (a .sheet .now) (a .start) (a .len)) (a .offset) (a .kind) (a .word) (s .pre .0) (c .before .before .before .before .before .before .before .before .before .before .if1 .left) (c .before .before .before .before .before .before .before .before .before .if2 .left)
     (sym (c .before .before .before .before .before .before .before .type-word .ensures .is) ∙ c .before .before .before .before .before .before .if3 .left) (c .before .before .before .before .type-word2 .ensures .is) (c .before .may-add .ensures .0) (c .if4 .taken))
 
 cast-raise-end : tie.Need-cast-raise-end
@@ -59,7 +59,7 @@ returns-5 : tie.Need-returns-5
 returns-5 c =
     let s = c .before .before .before .before .before .before .before .before .before .before .before .before .before .before .before .before .before .before .before .before .before .before in
     let a = s .args in
-    member-judged (a .types) (a .sheet .now) (a .start) (a .len) (a .offset) (a .kind) (s .pre .0) (s .pre .1) (c .before .before .before .before .before .before .before .before .before .before .before .before .before .before .before .before .before .before .before .if1 .left) (c .before .before .before .before .before .before .before .before .before .before .before .before .before .before .before .before .before .before .if2 .left)
+    member-judged (a .types) (a .sheet .now) (a .start) (a .len) (a .offset) (a .kind) (a .word) (s .pre .0) (s .pre .1) (c .before .before .before .before .before .before .before .before .before .before .before .before .before .before .before .before .before .before .before .if1 .left) (c .before .before .before .before .before .before .before .before .before .before .before .before .before .before .before .before .before .before .if2 .left)
     (sym (c .before .before .before .before .before .before .before .before .before .before .before .before .before .before .before .before .type-word .ensures .is) ∙ c .before .before .before .before .before .before .before .before .before .before .before .before .before .before .before .if3 .left) (c .before .before .before .before .before .before .before .before .before .before .before .before .before .type-word2 .ensures .is) (c .before .before .before .before .before .before .before .before .before .before .may-add .ensures .0) (c .before .before .before .before .before .before .before .before .before .if4 .left)
     (c .before .before .before .before .before .before .before .before .before .before .before .before .mark-of .ensures .0) (c .before .before .before .before .before .before .before .before .member-record .ensures) (c .before .before .before .before .before .before .next-row .ensures) (c .before .before .raise-end .ensures)
 

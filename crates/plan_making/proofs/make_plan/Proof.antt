@@ -1,4 +1,5 @@
 -- `plan_making::make_plan` meets its contract. Assumes nothing.
+use mathlib.Core.Path.{refl}
 use borrow.Author.Needs.{needs}
 use Rattle.plan_making.proofs.Making.{entries-asked, names-asked, plan-made}
 use Rattle.plan_making.proofs.make_plan.Statement.{statement}
@@ -13,14 +14,14 @@ put-entries-requires : tie.Need-put-entries-requires
 put-entries-requires c κs =
     let p = c .before .before .before .before in
     let x = p .before .before .before .before .before .before .before .before in
-    entries-asked (x .args .source-sheet .now) (x .args .source-half .now) (x .args .source-type) (x .args .destination-sheet .now) (x .args .destination-half .now) (x .args .destination-type) (x .pre .0) (x .args .plan .now) _ _ (p .plan .ensures) (x .args .words .now) (x .pre .1)
+    entries-asked (x .args .source-sheet .now) (x .args .source-half .now) (x .args .source-type) (x .args .destination-sheet .now) (x .args .destination-half .now) (x .args .destination-type) (x .pre .0) _ (x .pre .0 .destination) refl (x .args .plan .now) _ _ (p .plan .ensures) (x .args .words .now) (x .pre .1)
 
 put-names-requires : tie.Need-put-names-requires
 put-names-requires c κs =
     let e = c .before .before .before in
     let p = e .before .before .before .before .before in
     let x = p .before .before .before .before .before .before .before .before in
-    names-asked (x .args .source-sheet .now) (x .args .source-half .now) (x .args .source-type) (x .args .destination-sheet .now) (x .args .destination-half .now) (x .args .destination-type) (x .pre .0) (x .args .plan .now) _ _ (p .plan .ensures) (x .args .words .now) (x .pre .1) _ (e .put-entries .ensures)
+    names-asked (x .args .source-sheet .now) (x .args .source-half .now) (x .args .source-type) (x .args .destination-sheet .now) (x .args .destination-half .now) (x .args .destination-type) (x .pre .0) _ (x .pre .0 .destination) refl (x .args .plan .now) _ _ (p .plan .ensures) (x .args .words .now) (x .pre .1) _ (e .put-entries .ensures)
 
 returns : tie.Need-returns
 returns c =
@@ -28,7 +29,7 @@ returns c =
     let e = m .before .before .before .before in
     let p = e .before .before .before .before .before in
     let x = p .before .before .before .before .before .before .before .before in
-    plan-made (x .args .source-sheet .now) (x .args .source-half .now) (x .args .source-type) (x .args .destination-sheet .now) (x .args .destination-half .now) (x .args .destination-type) (x .pre .0) (x .args .plan .now) _ _ (p .plan .ensures) (x .args .words .now) (x .pre .1) _ (e .put-entries .ensures) _ (m .put-names .ensures)
+    plan-made (x .args .source-sheet .now) (x .args .source-half .now) (x .args .source-type) (x .args .destination-sheet .now) (x .args .destination-half .now) (x .args .destination-type) (x .pre .0) _ (x .pre .0 .destination) refl (x .args .plan .now) _ _ (p .plan .ensures) (x .args .words .now) (x .pre .1) _ (e .put-entries .ensures) _ (m .put-names .ensures)
 
 pub make-plan-spec : {M : Type 1} → statement M
 make-plan-spec =

@@ -1,0 +1,3 @@
+pub mod NoOther
+pub mod StopMatches
+pub mod WordSteps
