@@ -1,4 +1,4 @@
-// Whole calls: the exercises of document 01 that are not in the proved table.
+// Whole calls: the exercises of document 01 that are not in the proved table, and a word of a member.
 use convert::convert_copying;
 use shown::show;
 use shown::show_answer;
@@ -136,6 +136,23 @@ fn case_7() {
     show_bytes(&written);
 }
 
+fn case_8() {
+    show(b"clamped by a word");
+    let mut written = [0x55u8, 0x66];
+    let mut table = [7u32; 8192];
+    let a = convert_copying(
+        b"int\t1\tLE\t0\t8\tzero\tzero\tunsigned\ncomp\t2\nmember\toil\t0\t0\nmember\tboost\t1\t0\n",
+        b"int\t1\tLE\t0\t8\tzero\tzero\tsigned\ncomp\t2\nmember\toil\t0\t0\tclamp\nmember\tboost\t1\t0\n",
+        1,
+        1,
+        b"\xc8\x64",
+        &mut written,
+        &mut table,
+    );
+    show_answer(a);
+    show_bytes(&written);
+}
+
 fn main() {
     case_1();
     case_2();
@@ -144,4 +161,5 @@ fn main() {
     case_5();
     case_6();
     case_7();
+    case_8();
 }

@@ -107,6 +107,23 @@ fn case_6() {
     show_bytes(&written);
 }
 
+fn case_7() {
+    show(b"8 stop by a word");
+    let mut written = [0x55u8, 0x66];
+    let mut table = [7u32; 8192];
+    let a = convert_copying(
+        b"int\t1\tLE\t0\t8\tzero\tzero\tunsigned\ncomp\t2\nmember\toil\t0\t0\nmember\tboost\t1\t0\n",
+        b"int\t1\tLE\t0\t8\tzero\tzero\tsigned\ncomp\t2\nmember\toil\t0\t0\nmember\tboost\t1\t0\tstop\n",
+        1,
+        0,
+        b"\xc8\xc9",
+        &mut written,
+        &mut table,
+    );
+    show_answer(a);
+    show_bytes(&written);
+}
+
 fn main() {
     case_1();
     case_2();
@@ -114,4 +131,5 @@ fn main() {
     case_4();
     case_5();
     case_6();
+    case_7();
 }
