@@ -15,6 +15,10 @@
  *     int	2	BE	4	12	zero	zero	unsigned
  *     comp	2
  *     member	boost	0	0
+ *
+ * A member line may end in one more field, `clamp` or `stop`, as `member	boost	0	0	stop`: the handling of the numbers in that member, whatever the call's
+ * is. A leaf obeys the innermost member on its way in the destination that has the word; where none has, it obeys the call. A word above an array is for every
+ * element. Only the four converting calls obey words, the destination's alone: a source sheet may have them without effect.
  */
 #ifndef YIRVAGUL_H
 #define YIRVAGUL_H
@@ -65,8 +69,9 @@ enum {
      * destination, the background or the second log for count * D, the in-place buffer or the log for count * max(S, D), the report's memory for its words,
      * the mask for S bytes, a list, or the report's output. Lend a longer one. */
     YIRVAGUL_ROOM = 7,
-    /* Handling is stop, as in every plain form, and a number does not fit: the first such leaf is `at` bytes into destination record `record`, `kind` says
-     * why, and `given` and `magnitude` are the number. Give the destination a layout there that holds it, correct the log, or convert with YIRVAGUL_CLAMP. */
+    /* A number does not fit a leaf that obeys stop, by the word of a member or, where no member on its way has one, by the call, as of every plain form: the
+     * first such leaf is `at` bytes into destination record `record`, `kind` says why, and `given` and `magnitude` are the number. Give the destination a
+     * layout there that holds it, correct the log, or let the leaf clamp: by the word of its member, or, where none has one, by YIRVAGUL_CLAMP. */
     YIRVAGUL_STOP = 8,
     /* A setter's argument or result is outside its rule, or the layout already was. Pass a valid layout and an argument within the rule. */
     YIRVAGUL_RANGE = 9,
@@ -84,8 +89,8 @@ enum {
 /* The answer's eight words. Each call that reads sheets writes all of them; a word that the number does not name is 0. */
 enum {
     YIRVAGUL_ANSWER_NUMBER = 0,   /* what the call returned */
-    YIRVAGUL_ANSWER_COUNT = 1,    /* done: how many leaves raised an exception; of the leaf list, the report, the list of differences or the mask, its
-                                      length in bytes; of the record size, that size in bytes */
+    YIRVAGUL_ANSWER_COUNT = 1,    /* done: how many leaves raised an exception, and were clamped; of the leaf list, the report, the list of differences or
+                                      the mask, its length in bytes; of the record size, that size in bytes */
     YIRVAGUL_ANSWER_LINE = 2,     /* SOURCE, DESTINATION: the first faulty line */
     YIRVAGUL_ANSWER_RECORD = 3,   /* STOP: the record, from 0 */
     YIRVAGUL_ANSWER_AT = 4,       /* STOP: the leaf's first byte in its destination record, from 0 */
@@ -137,7 +142,8 @@ static inline const char *yirvagul_name(uint32_t number) {
 
 /* ---- converting ---- */
 
-/* What handling says of numbers that do not fit. */
+/* What handling says of numbers that do not fit, in the leaves where no word of a member says it. So YIRVAGUL_CLAMP can answer STOP, where a member of the
+ * destination says `stop`, and YIRVAGUL_STOP_FIRST can be done with a count, of numbers where one says `clamp`. */
 enum {
     YIRVAGUL_CLAMP = 0,     /* write what the kind of the exception says, and count it */
     YIRVAGUL_STOP_FIRST = 1 /* refuse with STOP before anything is written */
@@ -145,26 +151,28 @@ enum {
 
 /* Converts count records of source into destination. The destination's own bytes are the background: bits that no matched leaf fixes stay, and so do
  * pads that are `keep`. Bytes behind the count records stay. The checks, in this order, are HANDLING, TABLE, SOURCE, DESTINATION, PATH, SYMBOLS, COUNT, ROOM
- * and STOP, for the four converting calls alike, but that a plain one has no HANDLING. */
+ * and STOP, for the four converting calls alike, but that a plain one has no HANDLING. Where members of the destination have words, handling 0 can answer STOP
+ * and handling 1 can be done with a count. */
 uint32_t yirvagul_convert_copying(const uint8_t *source_sheet, size_t source_sheet_len, const uint8_t *destination_sheet, size_t destination_sheet_len,
                                   uint64_t count, uint32_t handling, const uint8_t *source, size_t source_len, uint8_t *destination,
                                   size_t destination_len, uint32_t *table, size_t table_len, uint64_t answer[8]);
 
 /* The same with YIRVAGUL_STOP_FIRST. At a STOP nothing was written, and the answer names the record, the byte, the kind and the number: correct the sheet or
- * the log there, or name YIRVAGUL_CLAMP in yirvagul_convert_copying. */
+ * the log there, or name YIRVAGUL_CLAMP in yirvagul_convert_copying. Done has a count above 0 where a member's word clamps. */
 uint32_t yirvagul_convert_copying_plain(const uint8_t *source_sheet, size_t source_sheet_len, const uint8_t *destination_sheet,
                                         size_t destination_sheet_len, uint64_t count, const uint8_t *source, size_t source_len, uint8_t *destination,
                                         size_t destination_len, uint32_t *table, size_t table_len, uint64_t answer[8]);
 
 /* Converts count records where they lie. With S and D for the sizes of a source and a destination record, the buffer holds count * S bytes of source
  * before the call; after it bytes 0 to count * D - 1 are the converted records, bytes up to count * S - 1 (if S is larger) are zero, and later ones
- * stay. The background, count * D bytes, gives the bits that no matched leaf fixes. */
+ * stay. The background, count * D bytes, gives the bits that no matched leaf fixes. Handling and words are as of yirvagul_convert_copying: handling 0 can
+ * answer STOP, and handling 1 can be done with a count. */
 uint32_t yirvagul_convert_in_place(const uint8_t *source_sheet, size_t source_sheet_len, const uint8_t *destination_sheet, size_t destination_sheet_len,
                                    uint64_t count, uint32_t handling, uint8_t *buffer, size_t buffer_len, const uint8_t *background,
                                    size_t background_len, uint32_t *table, size_t table_len, uint64_t answer[8]);
 
 /* The same with YIRVAGUL_STOP_FIRST. At a STOP nothing was written, and the answer names the record, the byte, the kind and the number: correct the sheet or
- * the log there, or name YIRVAGUL_CLAMP in yirvagul_convert_in_place. */
+ * the log there, or name YIRVAGUL_CLAMP in yirvagul_convert_in_place. Done has a count above 0 where a member's word clamps. */
 uint32_t yirvagul_convert_in_place_plain(const uint8_t *source_sheet, size_t source_sheet_len, const uint8_t *destination_sheet,
                                          size_t destination_sheet_len, uint64_t count, uint8_t *buffer, size_t buffer_len, const uint8_t *background,
                                          size_t background_len, uint32_t *table, size_t table_len, uint64_t answer[8]);
@@ -186,10 +194,11 @@ enum {
 /* Adds a log to a report and writes what the report then says. The memory is the report: zeros before its first log, and afterwards as the last call left
  * it, always with the same reader's sheet. Each log may have a source sheet of its own.
  *
- * The count records of the log are converted to the reader's layout as yirvagul_convert_in_place does it with YIRVAGUL_CLAMP, and the buffer is left as that
- * call leaves it. The numbers that then stand in a matched int leaf are its samples: its lowest, highest, sum and number of samples follow them. A number
- * that was clamped is a sample too, as is the 0 of a not-a-number, and one exception more. A leaf that the log does not match gets none. Reals of the reader's
- * sheet have no line and no words, as bits and enums have none; their exceptions are counted.
+ * The count records of the log are converted to the reader's layout as yirvagul_convert_in_place does it with YIRVAGUL_CLAMP and without the words of the
+ * reader's members: every number that does not fit is clamped, and no report answers STOP. The buffer is left as that call leaves it. The numbers that then
+ * stand in a matched int leaf are its samples: its lowest, highest, sum and number of samples follow them. A number that was clamped is a sample too, as is
+ * the 0 of a not-a-number, and one exception more. A leaf that the log does not match gets none. Reals of the reader's sheet have no line and no words of the
+ * memory, as bits and enums have none; their exceptions are counted.
  *
  * The output has a header, `at`, `lowest`, `highest`, `sum` and `samples` parted by tabs, and a line for each int leaf of the reader's sheet, in byte order,
  * in decimal; `-` stands for lowest and highest where there is no sample. Done gives the output's length; bytes past it stay. A count of 0 adds nothing and
@@ -244,9 +253,9 @@ uint32_t yirvagul_compare(const uint8_t *first_sheet, size_t first_sheet_len, co
  * offset 4 has f0 ff, a big-endian one ff f0. All 64 bits of a real are in the mask.
  *
  * Two sources with the same bits under the mask, in every record, convert alike: the same answer, and over the same background the same converted bytes.
- * And each bit of the mask shows: there are two sources that differ in it alone and that convert otherwise with YIRVAGUL_CLAMP, in the count or in the
- * converted bytes. Only the bits of an enum without a value do not, where each number raises alike; with YIRVAGUL_STOP_FIRST the first such leaf can be what STOP
- * names, with its number.
+ * And, where no word makes a matched leaf obey stop, each bit of the mask shows: there are two sources that differ in it alone and that convert otherwise
+ * with YIRVAGUL_CLAMP, in the count or in the converted bytes. Only the bits of an enum without a value do not, where each number raises alike; in a leaf that
+ * obeys stop its number can be what STOP names. The mask itself is the same whatever the words are.
  *
  * Done gives the mask's length, which is the size of a source record; bytes behind it stay. The checks, in this order, are TABLE, SOURCE, DESTINATION, PATH,
  * SYMBOLS and ROOM (a mask under one source record). A refusal leaves the mask as it was. The mask overlaps no other argument. */

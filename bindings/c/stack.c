@@ -37,12 +37,18 @@ static int numbered(Sheet *s, const char *format, int a, int b) {
     return type(s, text);
 }
 
+/* The words of the members that are made: none, all the same, or clamp and stop in turn. */
+typedef enum { NO_WORD, ALL_CLAMP, ALL_STOP, BOTH_WORDS } Words;
+
+static Words words;
+
 static void named(Sheet *s, const char *kind, int name, int a, int b) {
+    static const char *const ends[] = {"", "\tclamp", "\tstop"};
     char text[96];
     if (b < 0)
         snprintf(text, sizeof text, "%s\tn%d\t%d", kind, name, a);
     else
-        snprintf(text, sizeof text, "%s\tn%d\t%d\t%d", kind, name, a, b);
+        snprintf(text, sizeof text, "%s\tn%d\t%d\t%d%s", kind, name, a, b, ends[words == BOTH_WORDS ? ALL_CLAMP + name % 2 : (int)words]);
     line(s, text);
 }
 
@@ -157,24 +163,33 @@ static void every_kind(Sheet *s, const char *const leaves[5], const char *base, 
 /* ---- pairs of sheets */
 
 typedef struct {
-    const char *name;
+    char name[64];
     Sheet from, to;
-    int stops; /* records of bytes 255 have a number that does not fit */
+    int stops; /* records of bytes 255 have a number that does not fit; where the words are both, also in a member that says stop */
     int is_wide; /* an int of the destination has more bits than a report takes */
+    Words words; /* of both sheets; the source's have no effect */
 } Pair;
 
-static Pair pairs[48];
+static Pair pairs[72];
 static int pair_count;
 
 static Pair *pair(const char *name, int stops) {
+    static const char *const ends[] = {"", ", clamp", ", stop", ", clamp and stop"};
     Pair *p = &pairs[pair_count++];
-    p->name = name;
+    snprintf(p->name, sizeof p->name, "%s%s", name, ends[words]);
     p->stops = stops;
+    p->words = words;
     return p;
 }
 
-static void make_pairs(void) {
+static void fill_every_kind(Pair *p, int from_size, int to_size) {
     const char *many[5], *others[5];
+    many[0] = PAIR, many[1] = WIDE, many[2] = WIDE_BITS, many[3] = REAL, many[4] = WIDE;
+    others[0] = SIGNED_BYTE, others[1] = FOUR, others[2] = BITS, others[3] = KEPT, others[4] = OTHER_REAL;
+    every_kind(&p->from, many, BYTE, 1, from_size), every_kind(&p->to, others, PAIR, 7, to_size);
+}
+
+static void make_pairs(void) {
     Pair *p;
     p = pair("one byte", 1), type(&p->from, BYTE), type(&p->to, SIGNED_BYTE);
     p = pair("one easy byte, growing", 0), type(&p->from, BYTE), type(&p->to, WIDE), p->is_wide = 1;
@@ -216,12 +231,25 @@ static void make_pairs(void) {
     p = pair("wide flags", 1), array_of(&p->from, WIDE_BITS, 2), array_of(&p->to, BITS, 2);
     p = pair("two doubles to bytes", 1), array_of(&p->from, REAL, 2), array_of(&p->to, BYTE, 2);
     p = pair("an enum", 1), enum_array(&p->from, BYTE, 0, 9, 1, 1), enum_array(&p->to, PAIR, 0, 9, 3, 1);
-    many[0] = PAIR, many[1] = WIDE, many[2] = WIDE_BITS, many[3] = REAL, many[4] = WIDE;
-    others[0] = SIGNED_BYTE, others[1] = FOUR, others[2] = BITS, others[3] = KEPT, others[4] = OTHER_REAL;
-    p = pair("a leaf of every kind", 1), every_kind(&p->from, many, BYTE, 1, 128), every_kind(&p->to, others, PAIR, 7, 128);
-    p = pair("a leaf of every kind from 4,096", 1), every_kind(&p->from, many, BYTE, 1, 4096), every_kind(&p->to, others, PAIR, 7, 128);
-    p = pair("a leaf of every kind in 4,096", 1), every_kind(&p->from, many, BYTE, 1, 128), every_kind(&p->to, others, PAIR, 7, 4096);
+    p = pair("a leaf of every kind", 1), fill_every_kind(p, 128, 128);
+    p = pair("a leaf of every kind from 4,096", 1), fill_every_kind(p, 4096, 128);
+    p = pair("a leaf of every kind in 4,096", 1), fill_every_kind(p, 128, 4096);
     p = pair("62 enums that differ in 4,096", 1), many_enums(&p->from, 254, 62), many_enums(&p->to, 253, 4096);
+}
+
+/* Pairs whose members have words. */
+static void make_worded_pairs(void) {
+    Pair *p;
+    p = pair("compounds 63 deep", 1), deep_compounds(&p->from, BYTE, 1, 0, 64), deep_compounds(&p->to, SIGNED_BYTE, 1, 1, 64);
+    p = pair("compounds 63 deep, growing", 1), deep_compounds(&p->from, SIGNED_BYTE, 1, 0, 64), deep_compounds(&p->to, PAIR, 2, 1, 128);
+    p = pair("compounds 63 deep in 4,096", 1), deep_compounds(&p->from, BYTE, 1, 0, 64), deep_compounds(&p->to, SIGNED_BYTE, 1, 1, 4096);
+    p = pair("4,096 leaves", 1), wide_compounds(&p->from, BYTE, 0), wide_compounds(&p->to, SIGNED_BYTE, 1);
+    p = pair("62 enums", 1), many_enums(&p->from, 254, 62), many_enums(&p->to, 253, 62);
+    p = pair("62 enums in 4,096", 1), many_enums(&p->from, 254, 62), many_enums(&p->to, 253, 4096);
+    p = pair("every kind", 1), fill_every_kind(p, 128, 128);
+    p = pair("every kind in 4,096", 1), fill_every_kind(p, 128, 4096);
+    if (words == BOTH_WORDS) return; /* the members of the last have one name, and so one word */
+    p = pair("arrays and compounds 63 deep", 1), deep_mixed(&p->from, BYTE, 128), deep_mixed(&p->to, SIGNED_BYTE, 128);
 }
 
 /* ---- calls */
@@ -431,6 +459,9 @@ static void fill(const Pair *p, uint64_t records, int high) {
     if (high == 2) memset(source + last, 255, size);
 }
 
+/* Whether a number that does not fit stops a call, by a word or by the call itself. */
+static int is_stopped(const Pair *p, const Call *c) { return p->words == NO_WORD ? c->handling || is_plain(c->form) : p->words != ALL_CLAMP; }
+
 /* Every form, of records that fit and of records that may not; and checks 5 to 7. */
 static void test_converting(const Pair *p) {
     size_t most = most_of(p);
@@ -442,7 +473,7 @@ static void test_converting(const Pair *p) {
             fill(p, c.count, high);
             for (handling = 0; handling <= takes_handling(c.form); handling++) {
                 c.handling = (uint32_t)handling;
-                expect(c, high && (handling || is_plain(c.form)) && p->stops ? YIRVAGUL_STOP : YIRVAGUL_DONE, most);
+                expect(c, high && p->stops && is_stopped(p, &c) ? YIRVAGUL_STOP : YIRVAGUL_DONE, most);
             }
         }
         other = c, other.count = 65537, expect(other, YIRVAGUL_COUNT, most);
@@ -571,6 +602,8 @@ int main(int argc, char **argv) {
     own = (size_t)(stack + PAINTED - lowest(&nothing) + 63) / 64 * 64;
     if (talks) printf("a thread by itself takes %lu\n", (unsigned long)own);
     make_pairs();
+    for (i = ALL_CLAMP; i <= BOTH_WORDS; i++) words = (Words)i, make_worded_pairs();
+    words = NO_WORD;
     for (i = 0; i < pair_count; i++) {
         test_converting(&pairs[i]);
         test_report(&pairs[i]);

@@ -678,6 +678,144 @@ static void test_null(void) {
     expect_answer(yirvagul_leaf_list(byte, len, NULL, 0, NULL, 0, answer), 2, 0, 0, 0, 0, 0, "TABLE, a NULL table");
 }
 
+/* ---- the words of members */
+
+/* What a member line may end in, and what a call may name: a word is one more than its handling, and a plain form stands for none. */
+enum { SILENT, CLAMPS, STOPS, EACH };
+static const char *const words[EACH] = {"", "\tclamp", "\tstop"};
+
+/* Whether a leaf stops: by the word that it obeys, or by the call. */
+static int stops(int word, int call) { return word == SILENT ? call != CLAMPS : word == STOPS; }
+
+/* One call of each form that names this handling, of records that do not grow: done with this count and these bytes; or, where they are NULL, stopped by a
+ * number above the range of this leaf, with nothing written. */
+static void expect_by(int call, const char *from, const char *to, uint64_t count, const char *log, size_t log_len, const char *wanted, size_t wanted_len,
+                      uint64_t exceptions, uint64_t record, uint64_t at, uint64_t given, const char *what) {
+    uint8_t out[16], buffer[16], background[16];
+    uint32_t handling = call == STOPS ? YIRVAGUL_STOP_FIRST : YIRVAGUL_CLAMP, returned;
+    memset(out, 0x77, sizeof out), memset(background, 0x77, sizeof background);
+    memset(buffer, 0x66, sizeof buffer), memcpy(buffer, log, log_len);
+    returned = call == SILENT ? copying_plain(from, to, count, log, log_len, out, sizeof out)
+                              : copying(from, to, count, handling, log, log_len, out, sizeof out);
+    if (wanted) {
+        expect_answer(returned, 0, exceptions, 0, 0, 0, 0, what);
+        expect_bytes(out, wanted, wanted_len, what);
+    } else
+        expect_stop(returned, record, at, YIRVAGUL_ABOVE, YIRVAGUL_GIVEN_PLUS, given, what);
+    wanted_len = wanted ? wanted_len : 0;
+    expect(memcmp(out + wanted_len, background, sizeof out - wanted_len) == 0, what);
+    returned = call == SILENT ? in_place_plain(from, to, count, buffer, sizeof buffer, background, sizeof background)
+                              : yirvagul_convert_in_place((const uint8_t *)from, strlen(from), (const uint8_t *)to, strlen(to), count, handling, buffer,
+                                                          sizeof buffer, background, sizeof background, table, YIRVAGUL_TABLE_WORDS, answer);
+    if (wanted) {
+        expect_answer(returned, 0, exceptions, 0, 0, 0, 0, what);
+        expect_bytes(buffer, wanted, wanted_len, what);
+    } else {
+        expect_stop(returned, record, at, YIRVAGUL_ABOVE, YIRVAGUL_GIVEN_PLUS, given, what);
+        expect(memcmp(buffer, log, log_len) == 0, what);
+    }
+    expect(buffer[15] == 0x66, what);
+}
+
+#define TWO PAIR "comp\t4\nmember\toil\t0\t0\nmember\tboost\t2\t0\n"
+
+/* Two bytes, whose members have these words. */
+static const char *two_bytes(int oil, int boost) {
+    static char sheet[160];
+    snprintf(sheet, sizeof sheet, BYTE "comp\t2\nmember\toil\t0\t0%s\nmember\tboost\t1\t0%s\n", words[oil], words[boost]);
+    return sheet;
+}
+
+static void test_words(void) {
+    /* the boost of the first record and the oil of the second do not fit; every oil; both of the second record */
+    static const char log[] = "\0\5\1\0\1\1\0\7", oils[] = "\1\0\0\5\2\0\0\6", second[] = "\1\0\0\5\1\2\1\3";
+    static const char text[] = HEAD "0\t5\t255\t260\t2\n1\t7\t255\t262\t2\n";
+    int call, oil, boost;
+    memset(output, 0x77, sizeof output);
+    for (oil = 0; oil < EACH; oil++)
+        for (boost = 0; boost < EACH; boost++) {
+            const char *to = two_bytes(oil, boost);
+            int64_t memory[10] = {0};
+            uint8_t buffer[8], mask[4];
+            for (call = 0; call < EACH; call++) {
+                if (stops(boost, call))
+                    expect_by(call, TWO, to, 2, log, 8, NULL, 0, 0, 0, 1, 256, "a leaf that stops");
+                else if (stops(oil, call))
+                    expect_by(call, TWO, to, 2, log, 8, NULL, 0, 0, 1, 0, 257, "a leaf that stops behind a record that is clamped");
+                else
+                    expect_by(call, TWO, to, 2, log, 8, "\5\xff\xff\7", 4, 2, 0, 0, 0, "leaves that clamp");
+                expect_by(call, TWO, to, 2, "\0\1\0\2\0\3\0\xff", 8, "\1\2\3\xff", 4, 0, 0, 0, 0, "numbers that fit");
+            }
+            memcpy(buffer, log, 8);
+            expect_report(report(TWO, to, 2, buffer, 8, memory, 10, sizeof output), text, "the report clamps whatever the words");
+            expect(memory[YIRVAGUL_REPORT_EXCEPTIONS] == 2, "its exceptions");
+            expect_answer(reach(TWO, to, mask, 4), 0, 4, 0, 0, 0, 0, "a mask turns on no word");
+            expect_bytes(mask, "\xff\xff\xff\xff", 4, "its bits");
+            expect_lines(TWO, to, 2, log, 8, "\5\xff\1\7", 4, "0\t1\t256\t255\n1\t0\t257\t1\n", "a comparison looks at no word");
+            expect_size_of(to, 2);
+        }
+    for (call = 0; call < EACH; call++) {
+        expect_by(call, TWO, two_bytes(CLAMPS, STOPS), 2, oils, 8, "\xff\5\xff\6", 4, 2, 0, 0, 0, "only leaves that clamp raise");
+        expect_by(call, TWO, two_bytes(CLAMPS, STOPS), 2, second, 8, NULL, 0, 0, 1, 1, 259, "a leaf that stops behind a byte that is clamped");
+    }
+}
+
+/* A leaf three members deep, whose members have these words. */
+static void test_nested_words(void) {
+    static const char from[] = PAIR "comp\t2\nmember\tboost\t0\t0\ncomp\t2\nmember\tbank\t0\t1\ncomp\t2\nmember\tengine\t0\t2\n";
+    char to[240];
+    int call, engine, bank, boost, word;
+    for (call = 0; call < EACH; call++)
+        for (engine = 0; engine < EACH; engine++)
+            for (bank = 0; bank < EACH; bank++)
+                for (boost = 0; boost < EACH; boost++) {
+                    snprintf(to, sizeof to, BYTE "comp\t1\nmember\tboost\t0\t0%s\ncomp\t1\nmember\tbank\t0\t1%s\ncomp\t1\nmember\tengine\t0\t2%s\n",
+                             words[boost], words[bank], words[engine]);
+                    word = boost != SILENT ? boost : bank != SILENT ? bank : engine;
+                    expect_by(call, from, to, 2, "\0\7\1\x2c", 4, stops(word, call) ? NULL : "\7\xff", 2, 1, 1, 0, 300, "the innermost word");
+                }
+}
+
+/* Three elements of two numbers, below a word and with words of their own. */
+static void test_words_of_arrays(void) {
+#define CELLS(base, size, pair, whole, above, a, b) \
+    base "comp\t" pair "\nmember\ta\t0\t0" a "\nmember\tb\t" size "\t0" b "\narray\t1\t3\ncomp\t" whole "\nmember\tcells\t0\t2" above "\n"
+    static const char from[] = CELLS(PAIR, "2", "4", "12", "", "", "");
+    static const char all[] = CELLS(BYTE, "1", "2", "6", "\tstop", "", ""), none[] = CELLS(BYTE, "1", "2", "6", "\tclamp", "", "");
+    static const char but_b[] = CELLS(BYTE, "1", "2", "6", "\tstop", "", "\tclamp"), only_a[] = CELLS(BYTE, "1", "2", "6", "\tclamp", "\tstop", "");
+    static const char marked[] = PAIR "comp\t4\nmember\toil\t0\t0\tstop\nmember\tboost\t2\t0\tclamp\n";
+    char log[12], clamped[6];
+    uint64_t leaf;
+    int call;
+    for (call = 0; call < EACH; call++) {
+        for (leaf = 0; leaf < 6; leaf++) {
+            memset(log, 0, sizeof log), log[2 * leaf] = 2;
+            memset(clamped, 0, sizeof clamped), clamped[leaf] = '\xff';
+            expect_by(call, from, all, 1, log, 12, NULL, 0, 0, 0, leaf, 512, "a word above an array");
+            expect_by(call, from, none, 1, log, 12, clamped, 6, 1, 0, 0, 0, "a clamping word above an array");
+        }
+        expect_by(call, from, but_b, 1, "\0\1\1\0\0\2\0\3\0\4\0\5", 12, "\1\xff\2\3\4\5", 6, 1, 0, 0, 0, "a word in an element clamps");
+        expect_by(call, from, but_b, 1, "\0\1\1\0\0\2\0\3\3\4\0\5", 12, NULL, 0, 0, 0, 4, 772, "a leaf beside it stops");
+        expect_by(call, from, only_a, 1, "\0\1\1\0\0\2\0\3\3\4\0\5", 12, NULL, 0, 0, 0, 4, 772, "a word in an element stops");
+        expect_by(call, marked, two_bytes(SILENT, SILENT), 1, "\0\5\1\0", 4, call == CLAMPS ? "\5\xff" : NULL, 2, 1, 0, 1, 256, "words of a source");
+    }
+}
+
+/* A word that is none is a fault of its line; so is a field behind a word. */
+static void test_faulty_words(void) {
+    static const char *const faulty[] = {"\t", "\tClamp", "\tstops", "\tclam", "\tstop ", "\t0", "\tclamp\tstop", "\tstop\t", "\t\tstop"};
+    uint8_t out[1] = {0x77};
+    char sheet[160];
+    size_t i;
+    for (i = 0; i < sizeof faulty / sizeof faulty[0]; i++) {
+        snprintf(sheet, sizeof sheet, BYTE "comp\t1\nmember\ta\t0\t0%s\n", faulty[i]);
+        expect_size(sheet, strlen(sheet), YIRVAGUL_TABLE_WORDS, YIRVAGUL_SOURCE, 0, 3, faulty[i]);
+        expect_answer(copying(BYTE, sheet, 1, 0, "\5", 1, out, 1), 4, 0, 3, 0, 0, 0, faulty[i]);
+    }
+    expect(out[0] == 0x77, "a faulty word leaves the destination");
+    expect_size_of(BYTE "comp\t1\nmember\tstop\t0\t0\tstop\n", 1);
+}
+
 static void test_names(void) {
     static const char *const names[] = {"DONE", "HANDLING", "TABLE", "SOURCE", "DESTINATION", "PATH", "COUNT", "ROOM", "STOP", "RANGE", "CHANNEL", "FULL",
                                         "SYMBOLS"};
@@ -709,6 +847,10 @@ int main(void) {
     test_setters();
     test_faulty_layouts();
     test_null();
+    test_words();
+    test_nested_words();
+    test_words_of_arrays();
+    test_faulty_words();
     test_names();
     return failed;
 }
