@@ -6,7 +6,7 @@ use std::fmt;
 #[derive(Clone, Copy, Debug, PartialEq, Eq, Hash)]
 #[non_exhaustive]
 pub enum Kind {
-    /// It is above the destination's range, or is +infinity; [`Handling::Clamp`](crate::Handling::Clamp) writes the largest.
+    /// It is above the destination's range, or is +infinity; clamping writes the largest.
     Above,
     /// It is below it, or is -infinity; clamping writes the smallest.
     Below,
@@ -57,26 +57,33 @@ impl fmt::Display for Kind {
             Kind::Rounded => "the int",
             _ => "the number",
         };
-        write!(f, "{subject} {}", self.why(None))
+        write!(f, "{subject} {}", self.why(None, None))
     }
 }
 
 impl Kind {
-    /// What is said of the number, where it is known or not.
-    fn why(self, given: Option<Given>) -> String {
+    /// What is said of the number, where it is known or not, and of the member whose word is stop, if that stopped it.
+    fn why(self, given: Option<Given>, stopped_by: Option<&str>) -> String {
+        let (says, clamp) = match stopped_by {
+            Some(member) => (
+                format!(", and the destination sheet says stop for `{member}`"),
+                "write clamp there",
+            ),
+            None => (String::new(), "clamp"),
+        };
         let lost = match given {
             Some(Given::Real(NEGATIVE_ZERO)) => "is a negative zero",
             Some(Given::Real(_)) => "has a fraction",
             _ => "has a fraction, or is a negative zero",
         };
         match self {
-            Kind::Above => "is above the destination's range: widen the destination, or clamp".into(),
-            Kind::Below => "is below the destination's range: widen the destination, or clamp".into(),
-            Kind::NoSymbol => "has no symbol in the source: give it one in both enums, or clamp".into(),
-            Kind::NotANumber => "is not-a-number, which no int holds: make the destination a real, or clamp".into(),
-            Kind::Truncated => format!("{lost}, which no int holds: make the destination a real, or clamp"),
-            Kind::Rounded => "is no double, only near one: make the destination an int, or clamp".into(),
-            Kind::Unknown(number) => format!("does not fit, for a reason that this version does not know (kind {number}): clamp, or use a newer wrapper"),
+            Kind::Above => format!("is above the destination's range{says}: widen the destination, or {clamp}"),
+            Kind::Below => format!("is below the destination's range{says}: widen the destination, or {clamp}"),
+            Kind::NoSymbol => format!("has no symbol in the source{says}: give it one in both enums, or {clamp}"),
+            Kind::NotANumber => format!("is not-a-number, which no int holds{says}: make the destination a real, or {clamp}"),
+            Kind::Truncated => format!("{lost}, which no int holds{says}: make the destination a real, or {clamp}"),
+            Kind::Rounded => format!("is no double, only near one{says}: make the destination an int, or {clamp}"),
+            Kind::Unknown(number) => format!("does not fit, for a reason that this version does not know (kind {number}){says}: {clamp}, or use a newer wrapper"),
         }
     }
 }
@@ -245,7 +252,8 @@ pub enum Error {
         /// The first one that is.
         short: Option<Short>,
     },
-    /// Handling is stop, as in every plain form, and a number does not fit.
+    /// A number does not fit a leaf that obeys stop: by the word of a member of the destination sheet, or, where none on its way has one, by the call's
+    /// [`Handling`](crate::Handling), which is stop in every plain form.
     #[non_exhaustive]
     Stop {
         /// The first record that has one, from 0; of a log, counted from the log's start.
@@ -258,6 +266,8 @@ pub enum Error {
         given: Given,
         /// The leaf's name, as `boost[1]`; empty where the record itself is the leaf.
         member: Option<String>,
+        /// The member by whose word it obeys stop, as `boost`: the innermost one on the leaf's way that has a word. None where the call's handling stopped it.
+        stopped_by: Option<String>,
     },
     /// A setter's argument or result is outside its rule, or the layout was.
     Range,
@@ -367,6 +377,7 @@ impl Error {
                 kind: Kind::from_number(kind),
                 given: Given::from_words(given, magnitude),
                 member,
+                stopped_by: None,
             },
             9 => Error::Range,
             10 => Error::Channel {
@@ -437,12 +448,12 @@ impl fmt::Display for Error {
             Error::Count => f.write_str("more than 65,536 records in one call: go in parts, as convert_log and compare do"),
             Error::Room { short: Some(Short { buffer, holds, needs }) } => write!(f, "the {buffer} is too short: it holds {holds} bytes and needs {needs}: lend a longer one"),
             Error::Room { .. } => f.write_str("a buffer is too short for that many records, or for the list: lend a longer one"),
-            Error::Stop { record, at, kind, given, member } => {
+            Error::Stop { record, at, kind, given, member, stopped_by } => {
                 write!(f, "{given} for byte {at} of record {record}")?;
                 if let Some(member) = member.as_deref().filter(|member| !member.is_empty()) {
                     write!(f, ", member `{member}`,")?;
                 }
-                write!(f, " {}", kind.why(Some(*given)))
+                write!(f, " {}", kind.why(Some(*given), stopped_by.as_deref()))
             }
             Error::Range => f.write_str("the argument or the layout breaks the rules of a layout: size 1 to 8 bytes, precision 1 to 64 bits, offset + precision within the size, no sign on bits"),
             Error::Channel { member: Some(member), precision: Some(precision) } => write!(f, "{} has {precision} bits, and a report takes ints of at most 32: narrow it in the reader's sheet, or leave it out", named(member)),

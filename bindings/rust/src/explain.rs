@@ -91,8 +91,17 @@ pub(crate) fn outcome(answer: Answer, call: &Call, table: &mut [u32]) -> Result<
             }
         }
         Error::Room { short } => *short = too_short(call, table),
-        Error::Stop { at, member, .. } => {
-            *member = destination(call).and_then(|record| sheet::leaf_at(&record, *at));
+        Error::Stop {
+            at,
+            member,
+            stopped_by,
+            ..
+        } => {
+            let leaf = destination(call).and_then(|record| sheet::find_leaf(&record, *at));
+            if let Some(leaf) = leaf {
+                *stopped_by = leaf.stopped_by().map(str::to_string);
+                *member = Some(leaf.name);
+            }
         }
         Error::Channel { member, precision } => {
             if let Some((name, bits)) = destination(call).and_then(|r| sheet::wide_int(&r)) {

@@ -16,6 +16,7 @@
 //! ```
 //!
 //! - [`convert_copying`] and [`convert_in_place`] convert up to 65,536 records in one call, and [`convert_log`] a log of any length.
+//! - [`Handling`] says what becomes of numbers that do not fit; a word in the destination sheet goes before it.
 //! - [`compare`] gives each leaf where two logs differ, whatever their layouts.
 //! - [`Report`] adds up log after log: the lowest, the highest, the sum and the number of samples of each int.
 //! - [`reach`] says which bits of a source record could have changed the result, [`source_bits`] what the others are.
@@ -71,7 +72,29 @@ pub const STACK_BYTES: usize = 163_840;
 /// call that does none of these, as [`Converter::reach`].
 pub const SMALL_STACK_BYTES: usize = 49_152;
 
-/// What to do with numbers that do not fit.
+/// What to do with numbers that do not fit, where the destination sheet does not say it.
+///
+/// A `member` line may end in one more field, `clamp` or `stop`. A leaf obeys the innermost member on its way in the destination that has such a word, and the
+/// call where none has. So a call with [`Handling::Clamp`] can give [`Error::Stop`], and one with [`Handling::Stop`] can be done with exceptions. A source sheet
+/// may have words without effect, and a [`Report`] clamps whatever they say.
+///
+/// ```
+/// use yirvagul::{convert_copying, Handling};
+///
+/// let rig = b"int\t2\tBE\t0\t16\tzero\tzero\tunsigned\ncomp\t4\nmember\toil\t0\t0\nmember\tboost\t2\t0\n";
+/// let bytes = b"int\t1\tLE\t0\t8\tzero\tzero\tunsigned\ncomp\t2\nmember\toil\t0\t0\tclamp\nmember\tboost\t1\t0\tstop\n";
+/// let mut out = [0; 2];
+/// // the oil is 300, which no byte holds, and may clamp
+/// assert_eq!(convert_copying(rig, bytes, 1, Handling::Stop, &[1, 44, 0, 7], &mut out), Ok(1));
+/// assert_eq!(out, [255, 7]);
+/// // the boost may not
+/// let error = convert_copying(rig, bytes, 1, Handling::Clamp, &[0, 7, 1, 44], &mut out).unwrap_err();
+/// assert_eq!(
+///     error.to_string(),
+///     "STOP (8): the number 300 for byte 1 of record 0, member `boost`, is above the destination's range, \
+///      and the destination sheet says stop for `boost`: widen the destination, or write clamp there"
+/// );
+/// ```
 #[derive(Clone, Copy, Debug, PartialEq, Eq, Hash)]
 pub enum Handling {
     /// Write the nearest that fits, and count it.

@@ -151,9 +151,9 @@ impl SourceBits {
 impl Converter {
     /// Which bits of a source record a conversion between two sheets can turn on: the significant bits of the matched source leaves, and no others.
     ///
-    /// Two sources with the same bits there, in every record, convert alike. And each of these bits shows: some two sources that differ in it alone convert
-    /// otherwise, in the count or in the converted bytes. (Not those of an enum without a value, where each number raises alike: the first such leaf shows in
-    /// the number that STOP carries.)
+    /// Two sources with the same bits there, in every record, convert alike. And, where no word makes a matched leaf obey stop, each of these bits shows: some
+    /// two sources that differ in it alone convert otherwise by clamping, in the count or in the converted bytes. (Not those of an enum without a value, where
+    /// each number raises alike: where such a leaf obeys stop, it shows in the number that STOP carries.) The mask is the same whatever the words are.
     ///
     /// It takes at most 49,152 bytes of its thread's stack.
     pub fn reach(&mut self, source_sheet: &[u8], destination_sheet: &[u8]) -> Result<Mask, Error> {

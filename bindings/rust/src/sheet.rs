@@ -1,6 +1,7 @@
 //! This crate's own reading of sheets. It explains what the library refused: the rule that a line breaks, where two types have no path, which symbol a
-//! destination lacks, which leaf stands at a byte, which is too wide for a report. The library alone decides; where this reading comes to another place than the
-//! library, it explains nothing. It also says which numbers of two compared logs are the bits of a real, since the library's list does not.
+//! destination lacks, which leaf stands at a byte and whose word it obeys, which is too wide for a report. The library alone decides; where this reading comes to
+//! another place than the library, it explains nothing. It also says which numbers of two compared logs are the bits of a real, since the library's list does not.
+use crate::Handling;
 use std::rc::Rc;
 
 const MOST_BYTES: usize = 16_384;
@@ -53,6 +54,8 @@ pub(crate) struct Member {
     pub name: Vec<u8>,
     pub at: u32,
     pub of: Rc<Type>,
+    /// The handling that its line ends in, if it has that word.
+    word: Option<Handling>,
     line: u32,
 }
 
@@ -142,7 +145,7 @@ fn columns(word: &[u8]) -> Option<&'static [&'static str]> {
         b"enum" => &["enum", "base"],
         b"value" => &["value", "name", "number"],
         b"comp" => &["comp", "size"],
-        b"member" => &["member", "name", "byte offset", "type"],
+        b"member" => &["member", "name", "byte offset", "type", "word"],
         b"array" => &["array", "base", "d1", "d2", "d3", "d4"],
         _ => return None,
     })
@@ -280,6 +283,7 @@ impl SoFar {
         let name = name(fields[1])?;
         let at = number("byte offset", fields[2])?;
         let number = number("type", fields[3])?;
+        let word = fields.get(4).map(|field| handling(field)).transpose()?;
         let own = self.types.len().saturating_sub(1);
         let of = self.types[..own].get(number as usize).cloned();
         let size = self.types.last().map_or(0, |newest| newest.size);
@@ -323,7 +327,13 @@ impl SoFar {
                 ));
             }
         }
-        members.push(Member { name, at, of, line });
+        members.push(Member {
+            name,
+            at,
+            of,
+            word,
+            line,
+        });
         Ok(())
     }
 
@@ -369,7 +379,7 @@ fn no_such_line(word: &[u8]) -> String {
     }
 }
 
-/// An array may leave out all dimensions but the first.
+/// An array may leave out all dimensions but the first, a member its word.
 fn has_its_fields(fields: &[&[u8]], columns: &[&str]) -> Result<(), String> {
     if fields.iter().any(|field| field.is_empty()) {
         return Err("two tabs stand together: part fields by one, and leave none empty".into());
@@ -388,17 +398,19 @@ fn has_its_fields(fields: &[&[u8]], columns: &[&str]) -> Result<(), String> {
             )),
         };
     }
-    if has == columns.len() {
+    if has == columns.len() || (word == "member" && has + 1 == columns.len()) {
         return Ok(());
     }
     let hint = match word {
         "bits" if has == 8 => " (bits have no sign)",
         "real" if has > 3 => " (a real has no offset, precision, pads or sign)",
+        "member" => " (the word is clamp or stop, or left out)",
         _ => "",
     };
     Err(format!(
-        "it has {has} field{}, and a line of this sort {}: {}{hint}",
+        "it has {has} field{}, and a line of this sort {}{}: {}{hint}",
         if has == 1 { "" } else { "s" },
+        if word == "member" { "4 or " } else { "" },
         columns.len(),
         columns.join(", ")
     ))
@@ -482,6 +494,15 @@ fn word(column: &str, field: &[u8], words: &[&str]) -> Result<usize, String> {
             others.join(", ")
         )
     })
+}
+
+/// The word at the end of a member line.
+fn handling(field: &[u8]) -> Result<Handling, String> {
+    let found = word("last field", field, &["clamp", "stop"]);
+    match found.map_err(|rule| rule + ", or leave it out")? {
+        0 => Ok(Handling::Clamp),
+        _ => Ok(Handling::Stop),
+    }
 }
 
 fn name(field: &[u8]) -> Result<Vec<u8>, String> {
@@ -705,7 +726,28 @@ fn in_byte_order(members: &[Member]) -> Vec<&Member> {
 
 /// The name of the leaf that starts at a byte, as `boost[1]`; empty where the record itself is the leaf.
 pub(crate) fn leaf_at(record: &Type, at: u32) -> Option<String> {
-    let (mut of, mut at, mut way) = (record, at, String::new());
+    find_leaf(record, at).map(|leaf| leaf.name)
+}
+
+/// A leaf of a record, as of [`leaf_at`].
+pub(crate) struct FoundLeaf {
+    pub name: String,
+    /// The word of the innermost member on its way that has one, and how much of the name is that member's.
+    word: Option<(Handling, usize)>,
+}
+
+impl FoundLeaf {
+    /// The member by whose word it obeys stop.
+    pub fn stopped_by(&self) -> Option<&str> {
+        match self.word {
+            Some((Handling::Stop, len)) => Some(&self.name[..len]),
+            _ => None,
+        }
+    }
+}
+
+pub(crate) fn find_leaf(record: &Type, at: u32) -> Option<FoundLeaf> {
+    let (mut of, mut at, mut way, mut word) = (record, at, String::new(), None);
     loop {
         match &of.class {
             Class::Comp { members } => {
@@ -713,6 +755,7 @@ pub(crate) fn leaf_at(record: &Type, at: u32) -> Option<String> {
                     .iter()
                     .find(|m| (m.at..m.at + m.of.size).contains(&at))?;
                 push_name(&mut way, &member.name);
+                word = member.word.map(|said| (said, way.len())).or(word);
                 at -= member.at;
                 of = &member.of;
             }
@@ -725,7 +768,7 @@ pub(crate) fn leaf_at(record: &Type, at: u32) -> Option<String> {
                 at -= element * base.size;
                 of = base;
             }
-            _ => return (at == 0).then_some(way),
+            _ => return (at == 0).then_some(FoundLeaf { name: way, word }),
         }
     }
 }

@@ -184,6 +184,82 @@ fn a_stop_leaves_the_output_and_names_the_logs_record() {
     );
 }
 
+/// Both as signed bytes, of which `b` may clamp and `a` may not, and a gap.
+const WORDS: &[u8] = b"int\t1\tLE\t0\t8\tzero\tzero\tsigned\ncomp\t3\nmember\tb\t0\t0\tclamp\nmember\ta\t1\t0\tstop\n";
+
+/// In how many of the first records `b` is clamped, from record 896 on.
+fn clamped(records: usize) -> u64 {
+    (0..records).filter(|i| i / 7 % 256 > 127).count() as u64
+}
+
+#[test]
+fn words_go_before_handling_in_every_part() {
+    let folder = folder("words");
+    let fits = log(&[]);
+    let wanted: Vec<u8> = fits
+        .chunks(2)
+        .flat_map(|record| [record[1].min(127), record[0], 0])
+        .collect();
+    let unfit = log(&[149_999, 80_001, 80_002]);
+    let first = (80_001, 1, Kind::Above, Given::Whole(200), "a".to_string());
+    let path = folder.join("out");
+    for handling in [Handling::Clamp, Handling::Stop] {
+        for jobs in [1, 2, 5] {
+            let converter = || LogConverter::new(FROM, WORDS, handling).jobs(jobs);
+            let whole = (RECORDS as u64, clamped(RECORDS));
+            each_input(&folder, &fits, |input, what| {
+                let mut out = vec![0; 3 * RECORDS];
+                let done = converter().convert(input, &mut out[..]);
+                assert_eq!(totals(done), whole, "{what} {handling:?}");
+                assert!(out == wanted, "{what} to a buffer");
+            });
+            assert_eq!(totals(converter().convert(&fits, &path)), whole);
+            assert!(fs::read(&path).unwrap() == wanted);
+
+            fs::write(&path, "as it was").unwrap();
+            each_input(&folder, &unfit, |input, what| {
+                let mut out = vec![0x77; 3 * RECORDS];
+                let refused = converter().convert(input, &mut out[..]);
+                assert_eq!(stop(refused), first, "{what} {handling:?}");
+                assert!(out.iter().all(|&b| b == 0x77), "{what} to a buffer");
+            });
+            each_input(&folder, &unfit, |input, what| {
+                let refused = converter().convert(input, &path);
+                assert_eq!(stop(refused), first, "{what} to a path");
+            });
+            each_input(&folder, &unfit, |input, what| {
+                let mut out = Vec::new();
+                let refused = converter().convert(input, Output::File(&mut out));
+                assert_eq!((stop(refused), out.len()), (first.clone(), 0), "{what}");
+            });
+            assert_eq!(fs::read(&path).unwrap(), b"as it was");
+        }
+    }
+    assert_eq!(names(&folder), ["in", "out"]);
+    let refused = convert_log(FROM, WORDS, Handling::Clamp, &unfit, &path);
+    assert_eq!(
+        refused.unwrap_err().to_string(),
+        "STOP (8): the number 200 for byte 1 of record 80001, member `a`, is above the destination's range, \
+         and the destination sheet says stop for `a`: widen the destination, or write clamp there"
+    );
+}
+
+#[test]
+fn words_in_parts_as_they_come() {
+    let unfit = log(&[80_001]);
+    for handling in [Handling::Clamp, Handling::Stop] {
+        let mut parts = convert_log_parts(FROM, WORDS, handling, &unfit).unwrap();
+        let part = parts.next().unwrap().unwrap();
+        assert_eq!((part.records, part.exceptions), (65_536, clamped(65_536)));
+        let refused = parts.next().unwrap().unwrap_err();
+        assert!(matches!(
+            refused,
+            LogError::Refused(Error::Stop { record: 80_001, .. })
+        ));
+        assert!(parts.next().is_none());
+    }
+}
+
 #[test]
 fn the_first_of_several_stops() {
     // in each of the three parts

@@ -221,7 +221,7 @@ pub struct Progress {
 pub struct Totals {
     /// The log's records.
     pub records: u64,
-    /// The leaves that raised an exception, in all records.
+    /// The leaves that raised an exception, in all records. Each was clamped: with [`Handling::Stop`], by the word of a member.
     pub exceptions: u64,
 }
 

@@ -7,6 +7,7 @@ mod reaches;
 mod reports;
 mod rules;
 mod symbols;
+mod words;
 
 const BYTE: &[u8] = b"int\t1\tLE\t0\t8\tzero\tzero\tunsigned\n";
 const SIGNED: &[u8] = b"int\t1\tLE\t0\t8\tzero\tzero\tsigned\n";

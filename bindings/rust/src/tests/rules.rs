@@ -136,7 +136,11 @@ fn the_number_of_fields() {
     );
     member(
         "member\ta\t0",
-        "it has 3 fields, and a line of this sort 4: member, name, byte offset, type",
+        "it has 3 fields, and a line of this sort 4 or 5: member, name, byte offset, type, word (the word is clamp or stop, or left out)",
+    );
+    member(
+        "member\ta\t0\t0\tclamp\tstop",
+        "it has 6 fields, and a line of this sort 4 or 5: member, name, byte offset, type, word (the word is clamp or stop, or left out)",
     );
     second(
         "array",
@@ -448,6 +452,37 @@ fn compounds() {
 }
 
 #[test]
+fn words_of_members() {
+    for word in ["stops", "Clamp", "STOP", "clam", "0", "keep"] {
+        member(
+            &format!("member\ta\t0\t0\t{word}"),
+            &format!("the last field is `{word}`: write clamp or stop, or leave it out"),
+        );
+    }
+    for line in ["member\ta\t0\t0\t", "member\ta\t0\t0\tclamp\t"] {
+        member(
+            line,
+            "it ends in a tab: drop it, or write the field that is missing",
+        );
+    }
+    member("member\ta\t0\t0\tstop ", "it ends in a blank: drop it");
+    member(
+        "member\ta\t0\t0\t\tstop",
+        "two tabs stand together: part fields by one, and leave none empty",
+    );
+    // no other line has one
+    second(
+        "comp\t4\tclamp",
+        "it has 3 fields, and a line of this sort 2: comp, size",
+    );
+    // a word mends no other fault of its line
+    member(
+        "member\tboost\t4\t0\tstop",
+        "the name `boost` stands on line 3 already: give each member of a compound its own",
+    );
+}
+
+#[test]
 fn arrays() {
     second("array\t0\t2\t0", "dimension 2 is 0: each is at least 1");
     second(
@@ -478,6 +513,9 @@ fn valid_sheets_have_no_fault() {
         "int\t8\tBE\t0\t64\tone\tone\tunsigned\nenum\t0\nvalue\tall\t18446744073709551615\n"
             .to_string(),
         format!("{wide}enum\t0\narray\t1\t3\ncomp\t2\narray\t3\t3\n"),
+        format!(
+            "{wide}comp\t6\nmember\ta\t0\t0\tclamp\nmember\tb\t2\t0\nmember\tstop\t4\t0\tstop\n"
+        ),
     ] {
         assert_eq!(sheet::read(sheet.as_bytes()).err(), None, "{sheet}");
         assert!(leaf_list(sheet.as_bytes()).is_ok());
@@ -502,15 +540,16 @@ fn a_line_that_is_shown() {
 /// What is read here agrees with the library on sheets that are changed at random: in the faulty line, the size and the leaves.
 #[test]
 fn damaged_sheets() {
-    let sheets: [&[u8]; 4] = [
+    let sheets: [&[u8]; 5] = [
         b"int\t2\tBE\t4\t12\tzero\tzero\tunsigned\nint\t1\tLE\t0\t8\tzero\tzero\tsigned\nenum\t1\nvalue\topen\t0\nvalue\tshut\t1\narray\t0\t3\ncomp\t8\nmember\tboost\t0\t3\nmember\tvalve\t7\t2\n",
         b"bits\t8\tLE\t0\t64\tone\tkeep\nint\t3\tBE\t23\t1\tkeep\tone\tsigned\nenum\t1\nvalue\ta\t-1\nvalue\tb\t0\n",
         b"int\t1\tLE\t0\t8\tzero\tzero\tunsigned\ncomp\t4\nmember\ta\t0\t0\nmember\tb\t3\t0\narray\t1\t2\t3\t4\t5\ncomp\t4096\nmember\tx\t1\t2\nmember\ty\t0\t0\n",
         b"real\t8\tLE\nint\t1\tLE\t0\t8\tzero\tzero\tunsigned\nreal\t8\tBE\nenum\t1\nvalue\ta\t8\ncomp\t20\nmember\tr\t0\t0\nmember\te\t8\t3\nmember\ts\t9\t2\n",
+        b"int\t1\tLE\t0\t8\tzero\tzero\tunsigned\ncomp\t2\nmember\ta\t0\t0\tstop\nmember\tb\t1\t0\narray\t1\t2\ncomp\t6\nmember\tx\t0\t2\tclamp\nmember\ty\t4\t1\tstop\n",
     ];
-    let pieces: [&[u8]; 17] = [
+    let pieces: [&[u8]; 19] = [
         b"\t", b"\n", b"0", b"1", b"9", b"-", b"\r", b" ", b"64", b"int", b"value", b"member",
-        b"a", b"LE", b"keep", b"\x80", b"real",
+        b"a", b"LE", b"keep", b"\x80", b"real", b"\tclamp", b"\tstop",
     ];
     let mut state = 1_u64;
     let mut below = |n: usize| {
@@ -522,13 +561,13 @@ fn damaged_sheets() {
     };
     let (mut faulty, mut good) = (0, 0);
     for _ in 0..20_000 {
-        let mut sheet = sheets[below(4)].to_vec();
+        let mut sheet = sheets[below(sheets.len())].to_vec();
         for _ in 0..=below(2) {
             let at = below(sheet.len());
             match below(4) {
                 0 => drop(sheet.remove(at)),
-                1 => drop(sheet.splice(at..at, pieces[below(17)].iter().copied())),
-                2 => drop(sheet.splice(at..=at, pieces[below(17)].iter().copied())),
+                1 => drop(sheet.splice(at..at, pieces[below(pieces.len())].iter().copied())),
+                2 => drop(sheet.splice(at..=at, pieces[below(pieces.len())].iter().copied())),
                 _ => {
                     // a line twice, or moved
                     let lines: Vec<&[u8]> = sheet.split_inclusive(|&b| b == 10).collect();
