@@ -33,8 +33,13 @@ member\tboost\t1\t3
 """
 
 
+def wordless(sheet: str) -> str:
+    """A sheet whose members have no words."""
+    return sheet.replace("\tclamp\n", "\n").replace("\tstop\n", "\n")
+
+
 def random_sheet(rng: random.Random) -> str:
-    """A sheet without a fault, most often with a compound at its end."""
+    """A sheet without a fault, most often with a compound at its end. Some members have words."""
     lines, sizes, ints = [], [], []
 
     def add(line, size):
@@ -78,7 +83,7 @@ def random_sheet(rng: random.Random) -> str:
         for name in rng.sample("abcdef", rng.randint(0, 5)):
             at += rng.randint(0, 2)
             base = rng.randrange(len(sizes))
-            members.append(f"member\t{name}\t{at}\t{base}")
+            members.append(f"member\t{name}\t{at}\t{base}" + rng.choice(("", "", "\tclamp", "\tstop")))
             at += sizes[base]
         if at <= 1000:
             add(f"comp\t{max(1, at + rng.randint(0, 3))}", max(1, at))
@@ -114,7 +119,9 @@ def spoiled(rng: random.Random, sheet: str) -> bytes:
             if how == 3:
                 fields = lines[line].split(b"\t")
                 words = (b"", b"0", b"1", b"8", b"9", b"64", b"65", b"4096", b"4097", b"4294967296", b"-1", b"-0", b"LE", b"keep", b"a" * 32)
-                fields[rng.randrange(len(fields))] = rng.choice(words)
+                words += (b"clamp", b"stop", b"stops")
+                at = rng.randrange(len(fields) + 1)
+                fields[at : at + 1] = [rng.choice(words)]
                 lines[line] = b"\t".join(fields)
             else:
                 lines.insert(rng.randrange(len(lines)), lines[line])

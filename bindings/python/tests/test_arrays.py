@@ -88,7 +88,7 @@ class Dtypes(unittest.TestCase):
         self.assertEqual(sheet_of(dtype_of(empty)), empty)
 
     def test_round_trips(self):
-        """Of random sheets that have a dtype: the sheet that it gives is of the same type, with bits as ints."""
+        """Of random sheets that have a dtype: the sheet that it gives is of the same type, with bits as ints and without words."""
         rng, seen = random.Random(4), 0
         for _ in range(4000):
             sheet = random_sheet(rng)
@@ -103,9 +103,9 @@ class Dtypes(unittest.TestCase):
         self.assertGreater(seen, 50)
 
     def plain(self, type_):
-        """A type with bits as ints, and pads as `sheet_of` writes them."""
+        """A type with bits as ints, members without words, and pads as `sheet_of` writes them."""
         if isinstance(type_, sheets.Compound):
-            return type_._replace(members=tuple(m._replace(type=self.plain(m.type)) for m in type_.members))
+            return type_._replace(members=tuple(m._replace(type=self.plain(m.type), word=None) for m in type_.members))
         if isinstance(type_, sheets.Array):
             return type_._replace(base=self.plain(type_.base))
         if isinstance(type_, sheets.Enum):
@@ -114,6 +114,21 @@ class Dtypes(unittest.TestCase):
             return type_
         order = type_.order if type_.size > 1 else yirvagul.Order.LE
         return type_._replace(class_=yirvagul.Class.INT, order=order, lsb=yirvagul.Pad.ZERO, msb=yirvagul.Pad.ZERO)
+
+    def test_words_are_left_out(self):
+        """A dtype has no place for them; a conversion into the sheet's array obeys them."""
+        silent = BYTE + "comp\t2\nmember\toil\t0\t0\nmember\tboost\t1\t0\n"
+        worded = silent.replace("oil\t0\t0", "oil\t0\t0\tclamp").replace("boost\t1\t0", "boost\t1\t0\tstop")
+        self.assertEqual(dtype_of(worded), np.dtype([("oil", "u1"), ("boost", "u1")]))
+        self.assertEqual(sheet_of(dtype_of(worded)), silent)
+        source = PAIR + "comp\t4\nmember\toil\t0\t0\nmember\tboost\t2\t0\n"
+        array, exceptions = convert_to_array(source, worded, Handling.STOP, bytes((1, 0, 0, 7)))
+        self.assertEqual((array.tolist(), exceptions), ([(255, 7)], 1))
+        with self.assertRaises(Refusal) as caught:
+            convert_to_array(source, worded, Handling.CLAMP, bytes((1, 0, 1, 7)))
+        self.assertEqual((caught.exception.number, caught.exception.stopped_by), (Number.STOP, "boost"))
+        array, exceptions = convert_to_array(source, dtype_of(worded), Handling.CLAMP, bytes((1, 0, 1, 7)))
+        self.assertEqual((array.tolist(), exceptions), ([(255, 255)], 2))
 
     def test_sheets_without_a_dtype(self):
         why = "and numpy's whole numbers fill 1, 2, 4 or 8 bytes: convert to a sheet with such numbers"

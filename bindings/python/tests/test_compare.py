@@ -19,7 +19,7 @@ import tracemalloc
 import unittest
 
 import yirvagul
-from common import BITS, BYTE, CUSTOMER, PAIR, REAL, RIG, SIGNED, random_sheet
+from common import BITS, BYTE, CUSTOMER, PAIR, REAL, RIG, SIGNED, random_sheet, wordless
 from yirvagul import Difference, Handling, Number, Refusal, compare, convert_copying, differences, record_size, sheets
 
 REPOSITORY = pathlib.Path(__file__).resolve().parents[3]
@@ -112,7 +112,7 @@ class Results(unittest.TestCase):
             self.assertEqual(compare(sheet, sheet, log, bytes(log)), [])
             out = bytearray(rng.randbytes(3 * size))
             try:
-                convert_copying(sheet, sheet, 3, Handling.STOP, log, out)
+                convert_copying(sheet, wordless(sheet), 3, Handling.STOP, log, out)
             except Refusal:
                 continue
             self.assertEqual(compare(sheet, sheet, log, out), [])
@@ -123,7 +123,7 @@ class Results(unittest.TestCase):
             again = bytearray(out)
             stopped = None
             try:
-                convert_copying(sheet, sheet, 3, Handling.STOP, out, again)
+                convert_copying(sheet, wordless(sheet), 3, Handling.STOP, out, again)
             except Refusal as refusal:
                 stopped = refusal
             if found:

@@ -97,7 +97,7 @@ WORDS = {
 }
 
 FIELDS = ("number", "name", "sheet", "line", "text", "rule", "member", "count", "short")
-FIELDS += ("record", "at", "kind", "given", "given_bits", "precision", "symbol", "answer", "args")
+FIELDS += ("record", "at", "kind", "given", "given_bits", "stopped_by", "precision", "symbol", "answer", "args")
 
 
 def fields(refused):
@@ -128,7 +128,7 @@ class Messages(unittest.TestCase):
         }
         for number in NUMBERS:
             has = fields(refusal(number))
-            for name in ("line", "text", "member", "count", "record", "at", "kind", "given", "given_bits", "precision", "symbol"):
+            for name in ("line", "text", "member", "count", "record", "at", "kind", "given", "given_bits", "stopped_by", "precision", "symbol"):
                 self.assertEqual(has[name], told[number].get(name), (number, name))
             self.assertEqual(has["short"], told[number].get("short", ()))
 

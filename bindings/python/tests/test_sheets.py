@@ -50,8 +50,19 @@ RULES = {
     "fields of member": (
         COMP + "member\ta\t0\n",
         3,
-        "it has 3 fields, and member has 4, parted by one tab: member, name, byte offset, type",
+        "it has 3 fields, and member has 4 or 5, parted by one tab: member, name, byte offset, type, word (clamp or stop, or left out)",
     ),
+    "a field behind a word": (
+        COMP + "member\ta\t0\t0\tclamp\tstop\n",
+        3,
+        "it has 6 fields, and member has 4 or 5, parted by one tab: member, name, byte offset, type, word (clamp or stop, or left out)",
+    ),
+    "another word of a member": (COMP + "member\ta\t0\t0\tstops\n", 3, "its last field is `stops`: write clamp or stop, or leave it out"),
+    "a word in another case": (COMP + "member\ta\t0\t0\tClamp\n", 3, "its last field is `Clamp`: write clamp or stop, or leave it out"),
+    "a blank behind a word": (COMP + "member\ta\t0\t0\tstop \n", 3, "its last field is `stop `: write clamp or stop, or leave it out"),
+    "an empty word": (COMP + "member\ta\t0\t0\t\n", 3, "it ends in a tab: write the field that is missing, or leave the tab out"),
+    "a tab behind a word": (COMP + "member\ta\t0\t0\tstop\t\n", 3, "it ends in a tab: write the field that is missing, or leave the tab out"),
+    "a word of a compound": ("comp\t4\tclamp\n", 1, "it has 3 fields, and comp has 2, parted by one tab: comp, size"),
     "no base": ("array\n", 1, "it has no dimension: an array has a base and one to four dimensions"),
     "no dimension": (BYTE + "array\t0\n", 2, "it has no dimension: an array has a base and one to four dimensions"),
     "five dimensions": (
@@ -229,6 +240,13 @@ class Rules(unittest.TestCase):
             str(refusal),
             "SOURCE (3): line 2 of the sheet is faulty, `real\\t4`: correct it by the rules of sheets and the lines before it",
         )
+
+
+    def test_words(self):
+        """They are the members' own."""
+        sheet = PAIR + "comp\t8\nmember\ta\t0\t0\tclamp\nmember\tb\t2\t0\nmember\tstop\t4\t0\tstop\n"
+        self.assertEqual([(member.name, member.word) for member in sheets.read(sheet).members], [("a", "clamp"), ("b", None), ("stop", "stop")])
+        self.assertEqual(record_size(sheet), 8)
 
 
 class Reading(unittest.TestCase):

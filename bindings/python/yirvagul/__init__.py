@@ -6,7 +6,8 @@ memoryview, mmap, array, numpy array); one that is written is writable and share
 of one file. Nothing is copied but sheets.
 
 A refused call raises `Refusal` and leaves buffers, layouts, logs and reports as they were. Handling is what to do with numbers that do not fit:
-`Handling.CLAMP` writes the nearest that fits and counts it, `Handling.STOP` refuses. The plain forms name none and stop.
+`Handling.CLAMP` writes the nearest that fits and counts it, `Handling.STOP` refuses. The plain forms name none and stop. A word of the destination sheet
+goes before it.
 
 Calls keep nothing and let other threads run meanwhile: any number of threads may call at once, each with buffers that no other one writes. A call
 takes at most `STACK_BYTES` of its thread's stack.

@@ -43,7 +43,7 @@ def refusal(
         return Refusal(number, short=short, answer=answer)
     if number == Number.STOP and destination_sheet is not None:
         destination = tree(destination_sheet)
-        member = sheets.leaf_name(destination, answer[AT]) if destination else None
+        leaf = sheets.leaf_at(destination, answer[AT]) if destination else None
         sign = {PLUS: 1, MINUS: -1}.get(answer[GIVEN])
         return Refusal(
             number,
@@ -52,7 +52,8 @@ def refusal(
             kind=answer[KIND],
             given=None if sign is None else sign * answer[MAGNITUDE],
             given_bits=answer[MAGNITUDE] if answer[GIVEN] == REAL else None,
-            member=member,
+            member=leaf and leaf.name,
+            stopped_by=leaf and leaf.stopped_by,
             answer=answer,
         )
     if number == Number.CHANNEL and destination_sheet is not None:

@@ -29,7 +29,8 @@ def dtype_of(sheet: Sheet) -> numpy.dtype[Any]:
     """The numpy dtype that has the same bytes as the sheet's type.
 
     Ints and bits must fill 1, 2, 4 or 8 bytes; a sheet with another layout has no dtype and raises ValueError. Bits become unsigned numbers, reals
-    float64. An enum becomes its base with the symbols beside it, in `dtype.metadata["enum"]`, where h5py has them too.
+    float64. An enum becomes its base with the symbols beside it, in `dtype.metadata["enum"]`, where h5py has them too. The words of members, `clamp` and
+    `stop`, have no place in a dtype and are left out.
     """
     np = _numpy()
     record_size(sheet)  # the library judges the sheet
@@ -69,7 +70,7 @@ def _dtype(np: Any, type_: sheets.Type, way: str) -> Any:
 def sheet_of(dtype: numpy.typing.DTypeLike) -> str:
     """The sheet of a numpy dtype of whole numbers and float64, and of records and arrays of them.
 
-    A number with `metadata["enum"]`, as `dtype_of` and h5py write it, is an enum. A dtype that no sheet can say raises ValueError.
+    A number with `metadata["enum"]`, as `dtype_of` and h5py write it, is an enum. No member has a word. A dtype that no sheet can say raises ValueError.
     """
     made = _Lines()
     made.type_of(_numpy().dtype(dtype), "")
@@ -139,8 +140,8 @@ def convert_to_array(
 ) -> tuple[numpy.ndarray[Any, Any], int]:
     """Converts all records of a log into a new array, over a background of zeros. Gives the array, and how many leaves raised an exception.
 
-    The destination is a sheet that has a dtype, or a dtype that has a sheet. The source is a path, a binary file or a buffer, with any number of
-    records.
+    The destination is a sheet that has a dtype, or a dtype that has a sheet; the words of a sheet's members are obeyed. The source is a path, a binary
+    file or a buffer, with any number of records.
     """
     np = _numpy()
     if isinstance(destination, np.dtype):

@@ -15,9 +15,12 @@ LIST_BYTES = 14 + 4096 * 12
 
 
 class Handling(enum.IntEnum):
-    """What to do with numbers that do not fit: write the nearest that fits and count it, or refuse before anything is written.
+    """What to do with numbers that do not fit, where the destination sheet does not say it: write the nearest that fits and count it, or refuse
+    before anything is written. The plain forms, which name no handling, refuse.
 
-    The plain forms, which name no handling, refuse.
+    A `member` line may end in one more field, `clamp` or `stop`. A leaf obeys the innermost member on its way in the destination that has such a word,
+    and the call where none has. So `CLAMP` can be refused with STOP, and `STOP` can be done with exceptions. A source sheet may have words without
+    effect, and a `Report` clamps whatever they say.
     """
 
     CLAMP = 0

@@ -67,7 +67,8 @@ class Refusal(Exception):
     - COUNT: `count`, the number of records
     - ROOM: `short`, each buffer that is too short
     - STOP: `record`, from 0; `at`, the first byte of the leaf in its destination record; `kind`; the `member`, such as `boost[1]`;
-      `given`, the number that did not fit, as it stood in the source: an int, or of a real a float, with its 64 bits in `given_bits`
+      `given`, the number that did not fit, as it stood in the source: an int, or of a real a float, with its 64 bits in `given_bits`; `stopped_by`,
+      the member whose word in the destination sheet is stop, such as `boost`, or None where the call's handling stopped it
     - RANGE: the `rule` that an argument or the layout breaks
     - CHANNEL: the `member` that is too wide for a report, and its `precision`, in bits
     - FULL: `count`, the number of records that the report would have
@@ -93,6 +94,7 @@ class Refusal(Exception):
         kind: Optional[int] = None,
         given: Optional[int] = None,
         given_bits: Optional[int] = None,
+        stopped_by: Optional[str] = None,
         precision: Optional[int] = None,
         symbol: Optional[str] = None,
         compared: bool = False,
@@ -106,6 +108,7 @@ class Refusal(Exception):
         self.kind = None if kind is None else _known(Kind, kind)
         self.given_bits = given_bits
         self.given: Union[int, float, None] = given if given_bits is None else double(given_bits)
+        self.stopped_by = stopped_by
         self.precision = precision
         self.symbol = symbol
         self.compared = compared
@@ -161,13 +164,14 @@ def double(bits: int) -> float:
     return number
 
 
+# What is wrong with a number, and what to do about it but to clamp.
 _WHY = {
-    Kind.ABOVE: "is above the destination's range: widen the destination, or clamp",
-    Kind.BELOW: "is below the destination's range: widen the destination, or clamp",
-    Kind.NO_SYMBOL: "has no symbol in the source: give it one in both enums, or clamp",
-    Kind.NOT_A_NUMBER: "is not-a-number, which no int holds: make the destination a real, or clamp",
-    Kind.TRUNCATED: "has a fraction, or is a negative zero, which no int holds: make the destination a real, or clamp",
-    Kind.ROUNDED: "is no double, only near one: make the destination an int, or clamp",
+    Kind.ABOVE: ("is above the destination's range", "widen the destination"),
+    Kind.BELOW: ("is below the destination's range", "widen the destination"),
+    Kind.NO_SYMBOL: ("has no symbol in the source", "give it one in both enums"),
+    Kind.NOT_A_NUMBER: ("is not-a-number, which no int holds", "make the destination a real"),
+    Kind.TRUNCATED: ("has a fraction, or is a negative zero, which no int holds", "make the destination a real"),
+    Kind.ROUNDED: ("is no double, only near one", "make the destination an int"),
 }
 
 
@@ -189,16 +193,17 @@ def _stop(refused: Refusal) -> str:
     place = f"byte {refused.at} of record {refused.record}"
     if refused.member is not None:
         place += f", member {quoted(refused.member)},"
-    if refused.kind == Kind.TRUNCATED and refused.given is not None:
-        lost = "has a fraction" if refused.given else "is a negative zero"
-        why = f"{lost}, which no int holds: make the destination a real, or clamp"
-    elif isinstance(refused.kind, Kind):
-        why = _WHY[refused.kind]
+    says, clamp = "", "clamp"
+    if refused.stopped_by is not None:
+        says, clamp = f", and the destination sheet says stop for {quoted(refused.stopped_by)}", "write clamp there"
+    if isinstance(refused.kind, Kind):
+        wrong, remedy = _WHY[refused.kind]
+        if refused.kind == Kind.TRUNCATED and refused.given is not None:
+            wrong = f"{'has a fraction' if refused.given else 'is a negative zero'}, which no int holds"
+        why = f"{wrong}{says}: {remedy}, or {clamp}"
     else:
-        why = (
-            f"does not fit, of kind {refused.kind}, which this version of yirvagul does not know: "
-            "clamp, or take the version of the library"
-        )
+        wrong = f"does not fit, of kind {refused.kind}, which this version of yirvagul does not know"
+        why = f"{wrong}{says}: {clamp}, or take the version of the library"
     return f"{_given(refused)} for {place} {why}"
 
 

@@ -16,9 +16,9 @@ def reach(source_sheet: Sheet, destination_sheet: Sheet) -> bytes:
     A byte for each byte of the record: `mask[j] >> q & 1` is 1 if bit q of byte j is one of them, where bit 0 is the lowest of the byte. Pad bits, leaves
     that are not matched, and gaps are 0.
 
-    Two sources with the same bits there, in every record, convert alike. And each of these bits shows: some two sources that differ in it alone convert
-    otherwise, in the count or in the converted bytes. (Not those of an enum without a value, where each number raises alike: the first such leaf shows in the
-    number that STOP carries.)
+    Two sources with the same bits there, in every record, convert alike. And, where no word makes a matched leaf obey stop, each of these bits shows: some
+    two sources that differ in it alone convert otherwise by clamping, in the count or in the converted bytes. (Not those of an enum without a value, where
+    each number raises alike: where such a leaf obeys stop, it shows in the number that STOP carries.) The mask is the same whatever the words are.
 
     It takes at most 49,152 bytes of its thread's stack.
     """

@@ -59,8 +59,8 @@ class Report:
     """The lowest, the highest, the sum and the number of samples of each int of a reader's sheet, over any number of logs.
 
     It holds the reader's sheet, so that the numbers of one sheet never meet those of another; each log may have a sheet of its own. A log is
-    converted to the reader's layout by clamping: a number that was clamped is a sample and counts as an exception. An int that a log does not have
-    gets no sample from it. Ints have at most 32 bits, and a report at most `Report.MOST_RECORDS` records.
+    converted to the reader's layout by clamping, whatever the words of its members say: a number that was clamped is a sample and counts as an
+    exception. An int that a log does not have gets no sample from it. Ints have at most 32 bits, and a report at most `Report.MOST_RECORDS` records.
 
         report = Report(reader)
         for log in logs:

@@ -1,5 +1,5 @@
 """A reading of sheets in Python, for explanations: which rule a line breaks, which members have no path, which symbol a destination lacks, whose byte a
-leaf's first byte is, which int is too wide for a report, which of two compared leaves is a real.
+leaf's first byte is and whose word it obeys, which int is too wide for a report, which of two compared leaves is a real.
 
 It explains and never decides: what counts is the library's answer. Which numbers of two compared logs are a real's is found here, since the library's
 list does not say it.
@@ -67,11 +67,12 @@ class Enum(NamedTuple):
 
 
 class Member(NamedTuple):
-    """A member of a compound, `at` bytes from its start."""
+    """A member of a compound, `at` bytes from its start. Its word is `clamp` or `stop`, or None where its line has none."""
 
     name: str
     at: int
     type: Type
+    word: Optional[str] = None
 
 
 class Compound(NamedTuple):
@@ -150,7 +151,7 @@ _FIELDS = {
     "enum": ("base",),
     "value": ("name", "number"),
     "comp": ("size",),
-    "member": ("name", "byte offset", "type"),
+    "member": ("name", "byte offset", "type", "word (clamp or stop, or left out)"),
 }
 _WORDS = (*_FIELDS, "array")
 
@@ -173,9 +174,8 @@ class _Reading:
             raise _Broken(_no_word(word))
         if fields and not fields[-1]:
             raise _Broken("it ends in a tab: write the field that is missing, or leave the tab out")
-        if word in _FIELDS and len(fields) != len(_FIELDS[word]):
-            has, wanted = _many(1 + len(fields), "field"), ", ".join((word, *_FIELDS[word]))
-            raise _Broken(f"it has {has}, and {word} has {1 + len(_FIELDS[word])}, parted by one tab: {wanted}")
+        if word in _FIELDS:
+            _check_fields(word, fields)
         if word in ("value", "member"):
             self.take_row(word, fields)
         else:
@@ -232,10 +232,12 @@ class _Reading:
         self.rows += 1
         self.types[-1] = made
 
-    def with_member(self, last: Compound, name: str, offset: str, field: str) -> Compound:
+    def with_member(self, last: Compound, name: str, offset: str, field: str, word: Optional[str] = None) -> Compound:
         _check_name(name, [member.name for member in last.members])
         at = _natural("byte offset", offset)
         _, made = self.earlier("type", field, len(self.types) - 1)
+        if word is not None and word not in ("clamp", "stop"):
+            raise _Broken(f"its last field is {quoted(word)}: write clamp or stop, or leave it out")
         end = at + made.size
         if end > last.size:
             room = _many(last.size, "byte")
@@ -244,7 +246,7 @@ class _Reading:
             if at < other.at + other.type.size and other.at < end:
                 theirs = _span(other.at, other.type)
                 raise _Broken(f"its bytes, {_span(at, made)}, overlap those of {other.name}, {theirs}")
-        return last._replace(members=(*last.members, Member(name, at, made)))
+        return last._replace(members=(*last.members, Member(name, at, made, word)))
 
     def earlier(self, what: str, field: str, below: int) -> tuple[int, Type]:
         """A type with a number lower than that of the type which it is used in."""
@@ -310,6 +312,15 @@ def _with_value(last: Enum, name: str, field: str) -> Enum:
 _ORDERS = {"LE": Order.LE, "BE": Order.BE}
 _PADS = {"zero": Pad.ZERO, "one": Pad.ONE, "keep": Pad.KEEP}
 _T = TypeVar("_T")
+
+
+def _check_fields(word: str, fields: Sequence[str]) -> None:
+    """A member may leave out its word, and no other line anything."""
+    most = 1 + len(_FIELDS[word])
+    least = most - 1 if word == "member" else most
+    if not least <= 1 + len(fields) <= most:
+        has, wanted = _many(1 + len(fields), "field"), ", ".join((word, *_FIELDS[word]))
+        raise _Broken(f"it has {has}, and {word} has {most if least == most else f'{least} or {most}'}, parted by one tab: {wanted}")
 
 
 def _no_word(word: str) -> str:
@@ -399,21 +410,37 @@ def _span(at: int, type_: Type) -> str:
 # ---- explanations
 
 
-def leaf_name(type_: Type, at: int) -> Optional[str]:
-    """The way to the leaf whose first byte is `at` bytes into a record: names and places in arrays, such as boost[1]. None if it has no names."""
-    way = ""
+class Leaf(NamedTuple):
+    """A leaf: its name, and the member by whose word it obeys stop, which is the innermost one on its way with a word; each None if there is none."""
+
+    name: Optional[str]
+    stopped_by: Optional[str]
+
+
+def leaf_at(type_: Type, at: int) -> Leaf:
+    """The leaf whose first byte is `at` bytes into a record."""
+    way, word, member_with_it = "", None, ""
     while not isinstance(type_, (Atomic, Real, Enum)):
         if isinstance(type_, Compound):
             inside = [member for member in type_.members if member.at <= at < member.at + member.type.size]
             if not inside:
-                return None
+                return Leaf(None, None)
             way += f".{inside[0].name}" if way else inside[0].name
+            if inside[0].word:
+                word, member_with_it = inside[0].word, way
             at, type_ = at - inside[0].at, inside[0].type
         else:
             place, at = divmod(at, type_.base.size)
             way += _index(place, type_.dimensions)
             type_ = type_.base
-    return way if way and at == 0 else None
+    if at or not way:
+        return Leaf(None, None)
+    return Leaf(way, member_with_it if word == "stop" else None)
+
+
+def leaf_name(type_: Type, at: int) -> Optional[str]:
+    """The way to the leaf whose first byte is `at` bytes into a record: names and places in arrays, such as boost[1]. None if it has no names."""
+    return leaf_at(type_, at).name
 
 
 def _index(place: int, dimensions: tuple[int, ...]) -> str:
