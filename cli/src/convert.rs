@@ -25,12 +25,16 @@ usage: yirvagul convert FROM.sheet TO.sheet IN OUT [--clamp | --stop] [--backgro
                      serves all, or as many as the log has; without it they are zero
   --jobs N           convert on N threads, 1 to 64; the output is the same
 
+A member line of TO.sheet may end in one more field, clamp or stop: for the numbers of that member
+this word goes before --clamp and --stop, and the innermost one before those around it.
+
 - is standard input or output. The output goes to a file beside OUT, which is renamed when it is
 complete: a refusal or a full disk leaves OUT as it was. (A run that is killed leaves the other
 file, .yirvagul-NUMBER-NUMBER.part.) If OUT is standard output or a device, all of IN is gone
 over before the first byte is written.
 
-At the end a line on standard error says how many records and exceptions there were.
+At the end a line on standard error says how many records and exceptions there were, and without
+--clamp that words clamped them.
 
 example:
   yirvagul convert examples/rig.sheet examples/customer.sheet examples/rig.log out.log
@@ -72,7 +76,14 @@ fn run(words: Vec<OsString>) -> Result<ExitCode, Failure> {
             }
             _ => Failure::of_log(error, from, to, log),
         })?;
-    files::note(&said(totals.records, totals.exceptions));
+    let mut line = said(totals.records, totals.exceptions);
+    // no other number passes a call that stops
+    match (handling, totals.exceptions) {
+        (Handling::Clamp, _) | (_, 0) => {}
+        (_, 1) => line += ", clamped by a word of its members",
+        _ => line += ", clamped by a word of their members",
+    }
+    files::note(&line);
     Ok(ExitCode::SUCCESS)
 }
 

@@ -21,9 +21,9 @@ usage: yirvagul report READER.sheet FROM.sheet LOG.. [--season FILE]
 
 The report has a header, then a line for each int of READER.sheet, in byte order: its byte, its
 lowest and its highest sample, their sum and how many they are, parted by tabs. An int that no
-log has shows - for lowest and highest. A number that READER.sheet has no room for is clamped:
-the nearest that fits is the sample, and it counts as an exception. Ints have at most 32 bits,
-and a report 1,048,576 records.
+log has shows - for lowest and highest. A number that READER.sheet has no room for is clamped,
+whatever its members say: the nearest that fits is the sample, and it counts as an exception.
+Ints have at most 32 bits, and a report 1,048,576 records.
 
 - is standard input. All logs are added or none. FILE is written last, beside its place, and then
 renamed: a refusal, a full disk or a closed pipe leaves it as it was. It takes one run at a time.

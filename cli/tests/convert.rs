@@ -189,6 +189,214 @@ fn three_hundred_records_of_ints() {
         .wrote(&wider(&numbers), "300 records, 4 exceptions\n");
 }
 
+/// Two numbers of 16 bits.
+const TWO: &[u8] =
+    b"int\t2\tBE\t0\t16\tzero\tzero\tunsigned\ncomp\t4\nmember\toil\t0\t0\nmember\tboost\t2\t0\n";
+
+/// A byte each, whose member lines end so.
+fn bytes(oil: &str, boost: &str) -> Vec<u8> {
+    format!("int\t1\tLE\t0\t8\tzero\tzero\tunsigned\ncomp\t2\nmember\toil\t0\t0{oil}\nmember\tboost\t1\t0{boost}\n").into_bytes()
+}
+
+/// So many records; the oils and the boosts of the records that are named fit no byte.
+fn two(records: usize, oils: &[usize], boosts: &[usize]) -> Vec<u8> {
+    let mut log: Vec<u8> = (0..records)
+        .flat_map(|i| [0, 5, 0, (i % 251) as u8])
+        .collect();
+    for record in oils {
+        log[4 * record] = 1;
+    }
+    for record in boosts {
+        log[4 * record + 2] = 2;
+    }
+    log
+}
+
+/// What it is converted to by clamping.
+fn two_bytes(log: &[u8]) -> Vec<u8> {
+    let byte = |number: &[u8]| if number[0] > 0 { 255 } else { number[1] };
+    log.chunks(2).map(byte).collect()
+}
+
+#[test]
+fn a_word_goes_before_the_options() {
+    let folder = Folder::new("words");
+    folder.write("two.sheet", TWO);
+    let words = ["", "\tclamp", "\tstop"];
+    let log = two(48, &[7, 8, 40], &[20]);
+    folder.write("two.log", &log);
+    for option in ["", "--stop", "--clamp"] {
+        for oil in words {
+            for boost in words {
+                folder.write("bytes.sheet", &bytes(oil, boost));
+                let ran = folder.run(&format!("convert two.sheet bytes.sheet two.log - {option}"));
+                let stops = |word: &str| match word {
+                    "" => option != "--clamp",
+                    word => word == "\tstop",
+                };
+                let says = |word: &str, name: &str| {
+                    match word {
+                    "" => ": widen the destination, or clamp\n".to_string(),
+                    _ => format!(", and the destination sheet says stop for `{name}`: widen the destination, or write clamp there\n"),
+                }
+                };
+                let start = "yirvagul: two.log: STOP (8): the number";
+                let above = "is above the destination's range";
+                if stops(oil) {
+                    let end = says(oil, "oil");
+                    ran.said(
+                        3,
+                        &format!("{start} 261 for byte 0 of record 7, member `oil`, {above}{end}"),
+                    );
+                } else if stops(boost) {
+                    let end = says(boost, "boost");
+                    ran.said(
+                        3,
+                        &format!(
+                            "{start} 532 for byte 1 of record 20, member `boost`, {above}{end}"
+                        ),
+                    );
+                } else {
+                    let by = match option {
+                        "--clamp" => "",
+                        _ => ", clamped by a word of their members",
+                    };
+                    ran.wrote(&two_bytes(&log), &format!("48 records, 4 exceptions{by}\n"));
+                }
+            }
+        }
+    }
+}
+
+#[test]
+fn what_words_clamped_is_said() {
+    let folder = Folder::new("clamped");
+    folder.write("two.sheet", TWO);
+    folder.write("bytes.sheet", &bytes("\tclamp", ""));
+    for (oils, said) in [
+        (&[][..], "48 records, 0 exceptions"),
+        (
+            &[9],
+            "48 records, 1 exception, clamped by a word of its members",
+        ),
+        (
+            &[9, 10, 47],
+            "48 records, 3 exceptions, clamped by a word of their members",
+        ),
+    ] {
+        let log = two(48, oils, &[]);
+        folder.write("two.log", &log);
+        for option in ["", "--stop"] {
+            folder
+                .run(&format!("convert two.sheet bytes.sheet two.log - {option}"))
+                .wrote(&two_bytes(&log), &format!("{said}\n"));
+        }
+        let (plain, _) = said.split_once(", clamped").unwrap_or((said, ""));
+        folder
+            .run("convert two.sheet bytes.sheet two.log - --clamp")
+            .wrote(&two_bytes(&log), &format!("{plain}\n"));
+    }
+}
+
+#[test]
+fn words_of_the_log_have_no_effect() {
+    let folder = Folder::new("source-words");
+    let marked = String::from_utf8_lossy(TWO).replace("\t0\n", "\t0\tclamp\n");
+    folder.write("two.sheet", marked.as_bytes());
+    folder.write("bytes.sheet", &bytes("", ""));
+    let log = two(3, &[], &[1]);
+    folder.write("two.log", &log);
+    folder
+        .run("convert two.sheet bytes.sheet two.log -")
+        .said(3, "yirvagul: two.log: STOP (8): the number 513 for byte 1 of record 1, member `boost`, is above the destination's range: widen the destination, or clamp\n");
+    let marked = marked.replace("clamp", "stop");
+    folder.write("two.sheet", marked.as_bytes());
+    folder
+        .run("convert two.sheet bytes.sheet two.log - --clamp")
+        .wrote(&two_bytes(&log), "3 records, 1 exception\n");
+}
+
+/// Three parts, in which a third of the oils is clamped, on any number of threads.
+#[test]
+fn words_in_every_part_of_a_long_log() {
+    let folder = Folder::new("long-words");
+    folder.write("two.sheet", TWO);
+    folder.write("bytes.sheet", &bytes("\tclamp", "\tstop"));
+    let oils: Vec<usize> = (0..150_000).step_by(3).collect();
+    let fits = two(150_000, &oils, &[]);
+    let wanted = two_bytes(&fits);
+    folder.write("fits.log", &fits);
+    folder.write("long.log", &two(150_000, &oils, &[149_999, 80_001, 80_000]));
+    folder.write("out.log", b"as it was");
+    let stop = "yirvagul: long.log: STOP (8): the number 694 for byte 1 of record 80000, member `boost`, is above the destination's range, \
+        and the destination sheet says stop for `boost`: widen the destination, or write clamp there\n";
+    for jobs in ["", "--jobs 2", "--jobs 5"] {
+        for option in ["", "--clamp"] {
+            for out in ["out.log", "-"] {
+                folder
+                    .run(&format!(
+                        "convert two.sheet bytes.sheet long.log {out} {option} {jobs}"
+                    ))
+                    .said(3, stop);
+            }
+            let said = match option {
+                "" => "150000 records, 50000 exceptions, clamped by a word of their members\n",
+                _ => "150000 records, 50000 exceptions\n",
+            };
+            folder
+                .run(&format!(
+                    "convert two.sheet bytes.sheet fits.log - {option} {jobs}"
+                ))
+                .wrote(&wanted, said);
+        }
+    }
+    assert_eq!(folder.read("out.log"), b"as it was");
+    folder
+        .run_with(
+            "convert two.sheet bytes.sheet - out.log --clamp --jobs 3",
+            &fits,
+        )
+        .said(0, "150000 records, 50000 exceptions\n");
+    assert!(folder.read("out.log") == wanted);
+}
+
+#[test]
+fn the_member_whose_word_stopped_it_is_named() {
+    let folder = Folder::new("named");
+    let sheet = |base: &str, size: usize, word: &str, inner: &str| {
+        let (pair, whole) = (2 * size, 6 * size);
+        format!("{base}comp\t{pair}\nmember\ta\t0\t0\nmember\tb\t{size}\t0{inner}\narray\t1\t3\ncomp\t{whole}\nmember\tcells\t0\t2\ncomp\t{whole}\nmember\tbank\t0\t3{word}\n")
+    };
+    let (pair, byte) = (
+        "int\t2\tBE\t0\t16\tzero\tzero\tunsigned\n",
+        "int\t1\tLE\t0\t8\tzero\tzero\tunsigned\n",
+    );
+    folder.write("from.sheet", sheet(pair, 2, "", "").as_bytes());
+    folder.write("to.sheet", sheet(byte, 1, "\tstop", "\tclamp").as_bytes());
+    // b of each element clamps; a of the last one stops, two members below the word
+    folder.write("one.log", &[0, 1, 1, 0, 0, 2, 1, 0, 3, 4, 1, 0]);
+    folder
+        .run("convert from.sheet to.sheet one.log out.log --clamp")
+        .said(3, "yirvagul: one.log: STOP (8): the number 772 for byte 4 of record 0, member `bank.cells[2].a`, is above the destination's range, and the destination sheet says stop for `bank`: widen the destination, or write clamp there\n");
+    folder.write("one.log", &[0, 1, 1, 0, 0, 2, 1, 0, 0, 4, 1, 0]);
+    folder.run("convert from.sheet to.sheet one.log -").wrote(
+        &[1, 255, 2, 255, 4, 255],
+        "1 record, 3 exceptions, clamped by a word of their members\n",
+    );
+}
+
+#[test]
+fn a_faulty_word() {
+    let folder = Folder::new("faulty-word");
+    folder.write("two.sheet", TWO);
+    folder.write("two.log", &two(3, &[], &[]));
+    folder.write("bytes.sheet", &bytes("", "\tstops"));
+    folder
+        .run("convert two.sheet bytes.sheet two.log out.log")
+        .said(3, "yirvagul: bytes.sheet: DESTINATION (4): line 4 of the destination sheet is faulty, `member\\tboost\\t1\\t0\\tstops`: the last field is `stops`: write clamp or stop, or leave it out\n");
+    assert_eq!(folder.others(), ["bytes.sheet", "two.log", "two.sheet"]);
+}
+
 #[test]
 fn one_exception_is_said_in_the_singular() {
     let folder = Folder::new("singular");

@@ -70,6 +70,18 @@ fn an_exception_is_counted() {
 }
 
 #[test]
+fn words_of_the_reader_stop_nothing() {
+    let folder = Folder::new("report-words");
+    folder.write("two.sheet", b"int\t2\tBE\t0\t16\tzero\tzero\tunsigned\ncomp\t4\nmember\toil\t0\t0\nmember\tboost\t2\t0\n");
+    folder.write("bytes.sheet", b"int\t1\tLE\t0\t8\tzero\tzero\tunsigned\ncomp\t2\nmember\toil\t0\t0\tclamp\nmember\tboost\t1\t0\tstop\n");
+    folder.write("two.log", &[0, 5, 1, 0, 1, 1, 0, 7]);
+    let text = format!("{HEAD}0\t5\t255\t260\t2\n1\t7\t255\t262\t2\n");
+    folder
+        .run("report bytes.sheet two.sheet two.log")
+        .wrote(text.as_bytes(), "2 records, 2 exceptions\n");
+}
+
+#[test]
 fn standard_input() {
     let folder = Folder::new("report-standard");
     folder
