@@ -1,9 +1,10 @@
 //! The four converting calls: the checks in the table's order, the answer,
 //! and every lent byte and word after the call.
 
-use crate::datatype::Datatype;
+use crate::datatype::{Datatype, Word};
 use crate::number;
-use crate::paths::{self, Match};
+use crate::obey;
+use crate::paths::{self, Leaf, Match};
 use crate::sheet;
 use crate::symbols;
 use std::rc::Rc;
@@ -69,12 +70,22 @@ pub struct Call<'a> {
 pub const CLAMP: u32 = 0;
 pub const STOP: u32 = 1;
 
-impl Call<'_> {
-    /// Document 02, 2026-10: "From now on the plain forms, in place and copying,
-    /// handle as 1."
-    fn stops(&self) -> bool {
-        self.handling.unwrap_or(STOP) == STOP
+/// Whether an exception of a destination leaf stops a call.
+type Stops = fn(&Call, &Datatype, &Leaf) -> bool;
+
+/// Document 02, 2026-12: "A leaf obeys the innermost member on its way that has
+/// the word, else the call." The call's source sheet is not asked.
+fn by_words(call: &Call, destination: &Datatype, leaf: &Leaf) -> bool {
+    match obey::innermost(destination, &leaf.way) {
+        Some(word) => word == Word::Stop,
+        // 2026-10: "the plain forms, in place and copying, handle as 1".
+        None => call.handling.unwrap_or(STOP) == STOP,
     }
+}
+
+/// 2026-12: "The season report still clamps everything."
+fn never(_: &Call, _: &Datatype, _: &Leaf) -> bool {
+    false
 }
 
 /// The number that a destination leaf was given: a matched number, or a real's
@@ -105,6 +116,7 @@ struct Raised {
     at: u64,
     kind: u64,
     given: Given,
+    stops: bool,
 }
 
 /// The copying form: the destination's own bytes are the background.
@@ -116,7 +128,7 @@ pub fn copying(call: Call, source: &[u8], destination: &[u8]) -> After {
             return Err(Answer::refused(7));
         }
         let background = &destination[..destination_len as usize];
-        let (converted, count) = convert(&call, &from, &to, source, background)?;
+        let (converted, count) = convert(&call, (&from, &to), source, background, by_words)?;
         written[..converted.len()].copy_from_slice(&converted);
         Ok(Answer::done(count))
     });
@@ -125,6 +137,15 @@ pub fn copying(call: Call, source: &[u8], destination: &[u8]) -> After {
 
 /// The in-place form: one buffer and a separate background.
 pub fn in_place(call: Call, buffer: &[u8], background: &[u8]) -> After {
+    move_records(call, buffer, background, by_words)
+}
+
+/// The same for the report: no exception stops it.
+pub fn clamped_in_place(call: Call, buffer: &[u8], background: &[u8]) -> After {
+    move_records(call, buffer, background, never)
+}
+
+fn move_records(call: Call, buffer: &[u8], background: &[u8], stops: Stops) -> After {
     let mut written = buffer.to_vec();
     let result = checked(&call).and_then(|(from, to)| {
         let (source_len, destination_len) = lengths(&call, &from, &to);
@@ -133,7 +154,7 @@ pub fn in_place(call: Call, buffer: &[u8], background: &[u8]) -> After {
             return Err(Answer::refused(7));
         }
         let background = &background[..destination_len as usize];
-        let (converted, count) = convert(&call, &from, &to, buffer, background)?;
+        let (converted, count) = convert(&call, (&from, &to), buffer, background, stops)?;
         written[..converted.len()].copy_from_slice(&converted);
         // "Bytes nD to nS − 1 (if S is larger) are zero."
         for at in destination_len..source_len {
@@ -224,38 +245,45 @@ pub fn lengths(call: &Call, from: &Datatype, to: &Datatype) -> (u128, u128) {
     )
 }
 
-/// The converted records and the exception count, or the answer STOP.
+/// The converted records and the exception count, or the answer STOP: "given
+/// exactly when a leaf that obeys stop raises, and names the first such leaf; the
+/// count takes all clamped ones".
 fn convert(
     call: &Call,
-    from: &Datatype,
-    to: &Datatype,
+    (from, to): (&Datatype, &Datatype),
     source: &[u8],
     background: &[u8],
+    stops: Stops,
 ) -> Result<(Vec<u8>, u64), Answer> {
-    let matches = paths::matches(from, to);
+    let matches: Vec<(Match, bool)> = paths::matches(from, to)
+        .into_iter()
+        .map(|pair| {
+            let stops = stops(call, to, &pair.to);
+            (pair, stops)
+        })
+        .collect();
     let mut converted = background.to_vec();
     let mut raised = Vec::new();
     for record in 0..call.count {
         let source = part(source, record, from.size());
         let start = (record * to.size()) as usize;
         let destination = &mut converted[start..start + to.size() as usize];
-        for pair in &matches {
+        for (pair, stops) in &matches {
             if let Some((kind, given)) = convert_leaf(pair, source, destination) {
                 raised.push(Raised {
                     record,
                     at: pair.to.at,
                     kind,
                     given,
+                    stops: *stops,
                 });
             }
         }
     }
-    let first = raised
-        .iter()
-        .min_by_key(|raised| (raised.record, raised.at));
-    match first {
-        Some(first) if call.stops() => Err(stopped(first)),
-        _ => Ok((converted, raised.len() as u64)),
+    let stopping = raised.iter().filter(|raised| raised.stops);
+    match stopping.min_by_key(|raised| (raised.record, raised.at)) {
+        Some(first) => Err(stopped(first)),
+        None => Ok((converted, raised.len() as u64)),
     }
 }
 

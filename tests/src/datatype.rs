@@ -44,12 +44,20 @@ pub struct Value {
     pub number: i128,
 }
 
+/// What a member line asks for where a leaf below it raises an exception.
+#[derive(Clone, Copy, Debug, PartialEq, Eq)]
+pub enum Word {
+    Clamp,
+    Stop,
+}
+
 #[derive(Debug)]
 pub struct Member {
     pub name: Vec<u8>,
     /// In bytes from the start of its compound.
     pub at: u64,
     pub datatype: Rc<Datatype>,
+    pub word: Option<Word>,
 }
 
 #[derive(Debug)]

@@ -1,6 +1,6 @@
 //! The fields of a sheet's line: words, names and numbers.
 
-use crate::datatype::{Order, Pad};
+use crate::datatype::{Order, Pad, Word};
 
 pub fn order(field: &[u8]) -> Option<Order> {
     match field {
@@ -15,6 +15,15 @@ pub fn pad(field: &[u8]) -> Option<Pad> {
         b"zero" => Some(Pad::Zero),
         b"one" => Some(Pad::One),
         b"keep" => Some(Pad::Keep),
+        _ => None,
+    }
+}
+
+/// "A further field `clamp` or `stop`."
+pub fn word(field: &[u8]) -> Option<Word> {
+    match field {
+        b"clamp" => Some(Word::Clamp),
+        b"stop" => Some(Word::Stop),
         _ => None,
     }
 }

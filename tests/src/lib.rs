@@ -7,6 +7,7 @@ pub mod datatype;
 pub mod field;
 pub mod list;
 pub mod number;
+pub mod obey;
 pub mod paths;
 pub mod reach;
 pub mod real;
@@ -32,3 +33,5 @@ mod reals;
 mod seasons;
 #[cfg(test)]
 mod stops;
+#[cfg(test)]
+mod words;

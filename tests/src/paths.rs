@@ -92,7 +92,7 @@ fn descend<'a>(datatype: &'a Datatype, at: u64, way: &mut Vec<Step>, found: &mut
 
 /// Goes the same way down the source. Gives nothing where a member's name
 /// is not in the source.
-fn follow<'a>(source: &'a Datatype, way: &[Step]) -> Option<Leaf<'a>> {
+pub fn follow<'a>(source: &'a Datatype, way: &[Step]) -> Option<Leaf<'a>> {
     let mut datatype = source;
     let mut at = 0;
     for step in way {

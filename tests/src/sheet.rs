@@ -1,7 +1,7 @@
 //! Layout sheets: from text to datatypes, or to the first faulty line.
 
 use crate::datatype::{Atomic, Datatype, Member, Value};
-use crate::field::{name, natural, order, pad, whole};
+use crate::field::{name, natural, order, pad, whole, word};
 use crate::number;
 use std::rc::Rc;
 
@@ -169,10 +169,13 @@ fn add_value(read: &mut Read, fields: &[&[u8]]) -> Option<()> {
     Some(())
 }
 
+/// Document 02, 2026-12: "a `member` line may end in a further field".
 fn add_member(read: &mut Read, fields: &[&[u8]]) -> Option<()> {
-    if fields.len() != 4 {
-        return None;
-    }
+    let word = match fields.len() {
+        4 => None,
+        5 => Some(word(fields[4])?),
+        _ => return None,
+    };
     let name = name(fields[1])?;
     let at = natural(fields[2])?;
     let user = read.types.len().checked_sub(1)?;
@@ -190,6 +193,11 @@ fn add_member(read: &mut Read, fields: &[&[u8]]) -> Option<()> {
     {
         return None;
     }
-    members.push(Member { name, at, datatype });
+    members.push(Member {
+        name,
+        at,
+        datatype,
+        word,
+    });
     Some(())
 }
