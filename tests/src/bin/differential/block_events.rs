@@ -2,6 +2,7 @@
 
 use crate::block_piece_events;
 use crate::block_symbol_events;
+use crate::block_words;
 use crate::blocks::{FEWEST, REPORTED, STOPS, Unit};
 use crate::convert::with_types;
 use crate::report_run::{ReportRun, ReportSeen};
@@ -34,7 +35,7 @@ const EACH: [&str; 15] = [
     "a real among ints",
 ];
 
-/// What the forms that can clamp must have met.
+/// What every form must have met of exceptions: a plain one by words.
 const CLAMPING: [&str; 2] = [
     "an exception past the first",
     "a number of 64 bits that is clamped",
@@ -90,6 +91,8 @@ pub fn needed() -> Vec<String> {
     }
     let enums = block_symbol_events::each();
     let enums: Vec<&str> = enums.iter().map(String::as_str).collect();
+    let worded = block_words::each();
+    let worded: Vec<&str> = worded.iter().map(String::as_str).collect();
     let stops: Vec<String> = STOPS.iter().map(|at| stop_at(*at)).collect();
     let stops: Vec<&str> = stops.iter().map(String::as_str).collect();
     for form in FORMS {
@@ -103,12 +106,11 @@ pub fn needed() -> Vec<String> {
         add(&block_piece_events::EACH);
         add(&STOPPING);
         add(&stops);
+        add(&worded);
+        add(&CLAMPING);
+        add(&block_symbol_events::CLAMPING);
         add(&block_symbol_events::STOPPING);
         add(&block_piece_events::STOPPING);
-        if !form.is_plain() {
-            add(&CLAMPING);
-            add(&block_symbol_events::CLAMPING);
-        }
         if !form.is_copying() {
             add(&IN_PLACE);
         }
@@ -168,18 +170,21 @@ pub fn note(tally: &mut Tally, run: &Run, seen: &Seen) {
             tally.saw(&named(run.form.name(), event));
         }
     };
-    with_types(sheets.0, sheets.1, |from, to, matches| match number {
-        0 => {
-            note_done(&mut saw, run, count, (from, to), matches);
-            block_symbol_events::note_done(&mut saw, run, (from, to), matches);
-            block_piece_events::note_done(&mut saw, run, seen, (from, to), matches);
+    with_types(sheets.0, sheets.1, |from, to, matches| {
+        match number {
+            0 => {
+                note_done(&mut saw, run, count, (from, to), matches);
+                block_symbol_events::note_done(&mut saw, run, (from, to), matches);
+                block_piece_events::note_done(&mut saw, run, seen, (from, to), matches);
+            }
+            8 => {
+                note_stop(&mut saw, run.count, (record, at), (from, to), matches);
+                block_symbol_events::note_stop(&mut saw, (record, at), (from, to), matches);
+                block_piece_events::note_stop(&mut saw, record, (from, to), matches);
+            }
+            _ => return,
         }
-        8 => {
-            note_stop(&mut saw, run.count, (record, at), (from, to), matches);
-            block_symbol_events::note_stop(&mut saw, (record, at), (from, to), matches);
-            block_piece_events::note_stop(&mut saw, record, (from, to), matches);
-        }
-        _ => {}
+        block_words::note(&mut saw, run, &seen.answer, (from, to), matches);
     });
 }
 

@@ -3,6 +3,7 @@
 
 use crate::blocks::FEWEST;
 use crate::run::{Run, Seen};
+use crate::words;
 use independent::datatype::{Atomic, Datatype, Order, Pad};
 use independent::number;
 use independent::paths::Match;
@@ -158,7 +159,7 @@ fn note_staying(
     let last = ordered.last().map_or(0, |pair| end(pair));
     let between = ordered.windows(2).any(|pair| end(pair[0]) < pair[1].to.at);
     // The gap's bytes are the background's.
-    let gap = run.source_sheet == run.destination_sheet && !same;
+    let gap = words::off(&run.source_sheet) == words::off(&run.destination_sheet) && !same;
     saw(gap && between, "a gap between members that stay");
     saw(gap && last < to, "a gap behind members that stay");
     saw(turned, "members that stay in another order");

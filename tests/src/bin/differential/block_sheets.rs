@@ -72,7 +72,7 @@ pub fn narrowed(random: &mut Random, from: &mut Model, to: &mut Model) -> (usize
 }
 
 /// Two leaves of any class.
-fn leaves(random: &mut Random, from: &mut Model, to: &mut Model) -> (usize, usize) {
+pub fn leaves(random: &mut Random, from: &mut Model, to: &mut Model) -> (usize, usize) {
     let (first, second) = match random.below(9) {
         0 | 1 => return kept_enums(random, from, to, 1),
         2 => (Line::Real(order(random)), Line::Real(order(random))),

@@ -27,7 +27,7 @@ const EACH: [&str; 15] = [
     "pairs that lie close and pairs far apart",
 ];
 
-/// What the forms that can clamp must have met.
+/// What every form must have met of exceptions: a plain one by words.
 pub const CLAMPING: [&str; 3] = [
     "a number without a symbol past the first, close",
     "a number without a symbol past the first, far apart",

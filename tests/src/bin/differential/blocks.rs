@@ -8,13 +8,14 @@ use crate::convert::{resize, with_types};
 use crate::generate::paired;
 use crate::model::Model;
 use crate::random::Random;
-use crate::records::{fitting, put, records};
+use crate::records::{fitting, fitting_records, put, records};
 use crate::report_events;
 use crate::report_run;
 use crate::reports;
 use crate::run::{self, FORMS, Form, Run};
 use crate::stops::raising;
 use crate::tally::Tally;
+use crate::words::{self, Share};
 use independent::datatype::Datatype;
 use independent::paths::Match;
 
@@ -96,7 +97,8 @@ pub fn case(random: &mut Random, tally: &mut Tally) -> Result<(), String> {
     let (from, to) = block_sheets::sheets(random);
     if random.percent(12) {
         let to = reports::reader_of(random, 0, &to);
-        return report(random, tally, from.text(), to.text());
+        let (from, to) = words::texts(random, &from, &to);
+        return report(random, tally, from, to);
     }
     conversion(random, tally, (from, to))
 }
@@ -128,25 +130,36 @@ fn conversion(
     let handling = u32::from(random.percent(55));
     let made = |random: &mut Random, from: &Datatype, to: &Datatype, matches: &[Match]| {
         let count = count(random, form, from, to, matches.len());
-        // A plain form is done only where nothing raises.
-        let bytes = match form.is_plain() && random.percent(40) {
-            true => fitting_log(random, from, count, matches),
+        // A plain form is done where nothing raises.
+        let bytes = match form.is_plain() && random.percent(30) {
+            true => fitting_records(random, from.size(), count, matches),
             false => log(random, from, to, count, matches),
         };
         (count, bytes)
     };
-    run_log(random, tally, (form, handling), (from, to), made)
+    // And where words clamp what raises.
+    let destination = match form.is_plain() && random.percent(60) {
+        true => {
+            let share = Share {
+                silent: *random.pick(&[0, 30]),
+                stop: *random.pick(&[0, 0, 30]),
+            };
+            words::with(random, &to, share)
+        }
+        false => words::text(random, &to),
+    };
+    let sheets = (words::text(random, &from), destination);
+    run_log(random, tally, (form, handling), sheets, made)
 }
 
 /// Runs a form over the source records that `made` gives, with their number.
-fn run_log(
+pub fn run_log(
     random: &mut Random,
     tally: &mut Tally,
     (form, handling): (Form, u32),
-    (from, to): (Model, Model),
+    (from, to): (Vec<u8>, Vec<u8>),
     made: impl FnOnce(&mut Random, &Datatype, &Datatype, &[Match]) -> (u64, Vec<u8>),
 ) -> Result<(), String> {
-    let (from, to) = (from.text(), to.text());
     let made = with_types(&from, &to, |source, destination, matches| {
         let (count, mut first) = made(random, source, destination, matches);
         let longer = match form.is_copying() {
@@ -182,16 +195,17 @@ pub const STOPS: [u64; 5] = [1, 7, 8, 9, 255];
 
 /// A run that stops within a block of 256.
 pub fn stop_case(random: &mut Random, tally: &mut Tally) -> Result<(), String> {
-    let sheets = paired(random, 3, block_sheets::numbers);
+    let (from, to) = paired(random, 3, block_sheets::numbers);
     let form = *random.pick(&FORMS);
     let made = |random: &mut Random, from: &Datatype, to: &Datatype, matches: &[Match]| {
         let count = random.between(256, 600);
-        let mut bytes = fitting_log(random, from, count, matches);
+        let mut bytes = fitting_records(random, from.size(), count, matches);
         let at = 256 * random.below(count / 256) + *random.pick(&STOPS);
         let unit = Unit::record(from, to);
         raise(random, &unit, at, from.size(), matches, &mut bytes);
         (count, bytes)
     };
+    let sheets = words::texts(random, &from, &to);
     run_log(random, tally, (form, 1), sheets, made)
 }
 
@@ -201,7 +215,7 @@ pub const REPORTED: [u64; 6] = [8, 9, 255, 256, 257, 600];
 /// A report of ints of every size and sign, many of which are clamped.
 pub fn report_case(random: &mut Random, tally: &mut Tally) -> Result<(), String> {
     let (from, reader) = paired(random, 12, block_sheets::narrowed);
-    let sheets = (from.text(), reader.text());
+    let sheets = words::texts(random, &from, &reader);
     let count = *random.pick(&REPORTED);
     let log = with_types(&sheets.0, &sheets.1, |source, _, matches| {
         let mut bytes = random.bytes((source.size() * count) as usize);
@@ -290,7 +304,7 @@ fn log(
     if style == 0 || matches.is_empty() {
         return records(random, from.size(), count, matches);
     }
-    let mut bytes = fitting_log(random, from, count, matches);
+    let mut bytes = fitting_records(random, from.size(), count, matches);
     if style < 7 {
         let unit = match random.percent(15) {
             true => Unit::record(from, to),
@@ -308,20 +322,8 @@ fn log(
     bytes
 }
 
-/// Source records whose numbers all fit, where a pair has one that does.
-fn fitting_log(random: &mut Random, from: &Datatype, count: u64, matches: &[Match]) -> Vec<u8> {
-    let mut bytes = random.bytes((from.size() * count) as usize);
-    for record in bytes.chunks_mut(from.size() as usize) {
-        for pair in matches {
-            let number = fitting(random, pair);
-            put(pair, number, record);
-        }
-    }
-    bytes
-}
-
 /// The first or the last of a block, one within a later one, or of the rest.
-fn stop_at(random: &mut Random, block: u64, units: u64) -> u64 {
+pub fn stop_at(random: &mut Random, block: u64, units: u64) -> u64 {
     let whole = units / block;
     let chosen = random.below(whole + 1) * block;
     let at = match random.below(8) {

@@ -6,6 +6,7 @@ use crate::convert::with_types;
 use crate::refusals::{Refusals, is_short};
 use crate::run::Seen;
 use crate::tally::Tally;
+use crate::word_events;
 use independent::call::part;
 use independent::compare::is_same;
 use independent::datatype::{Datatype, Value};
@@ -112,6 +113,8 @@ pub const NEEDED: [&str; 86] = [
 
 pub fn note(tally: &mut Tally, run: &CompareRun, seen: &Seen) {
     tally.answer("compare", seen.answer[0]);
+    let sheets = [&run.first_sheet[..], &run.second_sheet];
+    word_events::note_call(tally, "compare", &sheets, seen.answer[0]);
     note_checks(tally, run);
     let noted = with_types(
         &run.first_sheet,

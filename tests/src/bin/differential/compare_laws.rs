@@ -10,6 +10,7 @@ use crate::random::Random;
 use crate::records::with_other_free_bits;
 use crate::run::{self, Form, Run};
 use crate::tally::Tally;
+use crate::words;
 use independent::datatype::Datatype;
 use independent::number;
 use independent::paths::{Leaf, Match};
@@ -30,7 +31,7 @@ struct Setting<'a> {
 pub fn case(random: &mut Random, tally: &mut Tally) -> Result<(), String> {
     refused_case(random, tally)?;
     let (from, to) = models(random, 0);
-    let (from, to) = (from.text(), to.text());
+    let (from, to) = words::texts(random, &from, &to);
     let tested = with_types(&from, &to, |datatype, other, matches| {
         let setting = Setting::new(random, (&from, &to), (datatype, other), matches);
         cutting(random, tally, &setting)?;
@@ -155,7 +156,7 @@ fn converted_is_the_same(
         table: random.words(8192),
     };
     let converted = run::both(random, &run)?;
-    if converted.answer[0] != 0 {
+    if converted.answer[..2] != [0, 0] {
         return Ok(());
     }
     let mut after = setting.run.clone();
@@ -209,7 +210,7 @@ fn has_bit(leaf: &Leaf, byte: u64, bit: u64) -> bool {
 /// With one sheet for both, the other log first: the same lines, with the
 /// numbers exchanged; and nothing where both are one.
 fn exchanged(random: &mut Random, tally: &mut Tally, model: &Model) -> Result<(), String> {
-    let sheet = model.text();
+    let sheet = words::text(random, model);
     let tested = with_types(&sheet, &sheet, |from, to, matches| {
         let setting = Setting::new(random, (&sheet, &sheet), (from, to), matches);
         let there = rows(&both(random, &setting.run)?);
@@ -232,7 +233,8 @@ fn exchanged(random: &mut Random, tally: &mut Tally, model: &Model) -> Result<()
 /// Where a check before the list's refuses, the logs' bytes do not show.
 fn refused_case(random: &mut Random, tally: &mut Tally) -> Result<(), String> {
     let (from, to) = models(random, 20);
-    let run = make(random, 20, from.text(), to.text());
+    let (from, to) = words::texts(random, &from, &to);
+    let run = make(random, 20, from, to);
     let seen = both(random, &run)?;
     let unhurt = seen.answer[0] == 0 || seen.written == run.list;
     check(unhurt, "a refusal changes the list", &run)?;

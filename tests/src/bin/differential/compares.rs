@@ -11,6 +11,7 @@ use crate::patterns::{beside, pattern};
 use crate::random::Random;
 use crate::records::records;
 use crate::tally::Tally;
+use crate::words;
 use independent::call::part;
 use independent::compare::{differences, is_same, text};
 use independent::datatype::{Atomic, Datatype, Pad};
@@ -31,14 +32,16 @@ pub fn case(random: &mut Random, tally: &mut Tally, spoil: u64) -> Result<(), St
 pub fn limit_case(random: &mut Random, tally: &mut Tally) -> Result<(), String> {
     let model = limits::valid(random);
     let other = derive(random, &model);
-    let run = make(random, 3, model.text(), other.text());
+    let (from, to) = words::texts(random, &model, &other);
+    let run = make(random, 3, from, to);
     finish(random, tally, &run)
 }
 
 /// 65,536 records of a few bytes.
 pub fn long_case(random: &mut Random, tally: &mut Tally) -> Result<(), String> {
     let model = convert::few_bytes(random);
-    let (from, to) = (model.text(), derive(random, &model).text());
+    let other = derive(random, &model);
+    let (from, to) = words::texts(random, &model, &other);
     let mut run = make(random, 0, from.clone(), to.clone());
     with_types(&from, &to, |from, to, matches| {
         run.count = 65_536;

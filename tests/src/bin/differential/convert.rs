@@ -9,9 +9,10 @@ use crate::model::Model;
 use crate::random::Random;
 use crate::reaches;
 use crate::records::records;
-use crate::run::{self, FORMS, Run};
+use crate::run::{self, FORMS, Run, Seen};
 use crate::sizes;
 use crate::tally::Tally;
+use crate::words;
 use independent::datatype::Datatype;
 use independent::paths::{self, Match};
 use independent::sheet;
@@ -26,7 +27,8 @@ pub fn case(random: &mut Random, tally: &mut Tally, spoil: u64) -> Result<(), St
 /// A run between ints and reals.
 pub fn real_case(random: &mut Random, tally: &mut Tally) -> Result<(), String> {
     let (from, to) = generate::reals(random);
-    let run = make(random, 1, from.text(), to.text());
+    let (from, to) = words::texts(random, &from, &to);
+    let run = make(random, 1, from, to);
     finish(random, tally, &run)
 }
 
@@ -34,7 +36,8 @@ pub fn real_case(random: &mut Random, tally: &mut Tally) -> Result<(), String> {
 pub fn limit_case(random: &mut Random, tally: &mut Tally) -> Result<(), String> {
     let (from, to) = if random.percent(60) {
         let model = limits::valid(random);
-        (model.text(), derive(random, &model).text())
+        let other = derive(random, &model);
+        words::texts(random, &model, &other)
     } else {
         (limits::sheet(random), limits::sheet(random))
     };
@@ -45,7 +48,8 @@ pub fn limit_case(random: &mut Random, tally: &mut Tally) -> Result<(), String> 
 /// 65,536 records of a few bytes.
 pub fn long_case(random: &mut Random, tally: &mut Tally) -> Result<(), String> {
     let model = few_bytes(random);
-    let (from, to) = (model.text(), derive(random, &model).text());
+    let other = derive(random, &model);
+    let (from, to) = words::texts(random, &model, &other);
     let mut run = make(random, 0, from, to);
     run.count = 65_536;
     with_types(
@@ -64,10 +68,16 @@ pub fn long_case(random: &mut Random, tally: &mut Tally) -> Result<(), String> {
 }
 
 pub fn finish(random: &mut Random, tally: &mut Tally, run: &Run) -> Result<(), String> {
+    hold(random, tally, run).map(|_| ())
+}
+
+/// The same; gives what the library left.
+pub fn hold(random: &mut Random, tally: &mut Tally, run: &Run) -> Result<Seen, String> {
     let seen = run::both(random, run)?;
     crate::events::note(tally, run, &seen);
     sizes::of_run(random, tally, run)?;
-    reaches::of_run(random, tally, run)
+    reaches::of_run(random, tally, run)?;
+    Ok(seen)
 }
 
 /// Calls with both datatypes and the matches, if there is a path.
@@ -115,7 +125,7 @@ pub fn models(random: &mut Random, spoil: u64) -> (Model, Model) {
 
 /// A model's text, faulty in so many of a hundred.
 pub fn text(random: &mut Random, spoil: u64, model: &Model) -> Vec<u8> {
-    let text = model.text();
+    let text = words::text(random, model);
     match random.below(100) {
         share if share >= spoil => text,
         share if share % 4 == 0 => lines::sheet(random),

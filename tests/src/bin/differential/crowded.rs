@@ -9,6 +9,7 @@ use crate::model::{Line, Model, Name, Row};
 use crate::random::Random;
 use crate::run::Run;
 use crate::tally::Tally;
+use crate::words;
 use independent::datatype::Datatype;
 use independent::sheet;
 use std::collections::BTreeSet;
@@ -50,7 +51,8 @@ pub fn case(random: &mut Random, tally: &mut Tally) -> Result<(), String> {
         };
         fault = spoil(random, model);
     }
-    let run = convert::make(random, 1, from.text(), to.text());
+    let texts = words::texts(random, &from, &to);
+    let run = convert::make(random, 1, texts.0, texts.1);
     convert::finish(random, tally, &run)?;
     note(tally, &run, fault, [&from, &to]);
     Ok(())

@@ -1,6 +1,7 @@
 //! Damages a sheet's text: bytes, fields and whole lines.
 
 use crate::random::Random;
+use crate::words;
 
 /// What a number may be changed to.
 const NUMBERS: [&str; 30] = [
@@ -55,7 +56,7 @@ const LARGE: [&str; 14] = [
 ];
 
 /// Lines that are faulty, or turn on a bound, or stand where they may not.
-const LINES: [&str; 39] = [
+const LINES: [&str; 46] = [
     "array\t0\t65536\t65536\t65536\t65536",
     "array\t0\t65536\t65536",
     "array\t0\t4294967295\t4294967295\t4294967295\t4294967295",
@@ -91,15 +92,23 @@ const LINES: [&str; 39] = [
     "comp\t4097",
     "comp\t0",
     "value\ta\t0",
+    "value\ta\t0\tstop",
     "member\ta\t0\t0",
+    "member\ta\t0\t0\tclamp",
+    "member\ta\t0\t0\tstop",
+    "member\ta\t0\t0\t",
+    "member\ta\t0\t0\tstops",
+    "member\ta\t0\t0\tstop\tstop",
+    "member\ta\t0\tstop",
     "member\tb\t4294967295\t0",
     "enum\t0",
     "",
 ];
 
-const WORDS: [&str; 20] = [
+const WORDS: [&str; 25] = [
     "int", "bits", "enum", "comp", "array", "value", "member", "LE", "BE", "zero", "one", "keep",
-    "signed", "unsigned", "le", "Int", "keep ", "values", "real", "Real",
+    "signed", "unsigned", "le", "Int", "keep ", "values", "real", "Real", "clamp", "stop", "Clamp",
+    "STOP", "stops",
 ];
 
 /// One damage, at times two. The sheet may still be valid.
@@ -110,6 +119,7 @@ pub fn damage(random: &mut Random, text: &[u8]) -> Vec<u8> {
             0..=2 => damage_bytes(random, text),
             3 | 4 => damage_lines(random, &text),
             5 => damage_whole(random, text),
+            6 => damage_word(random, &text),
             _ => damage_fields(random, &text),
         };
     }
@@ -152,6 +162,26 @@ fn damage_whole(random: &mut Random, mut text: Vec<u8>) -> Vec<u8> {
     text
 }
 
+/// Puts what is no word behind a member, or a word behind a value.
+fn damage_word(random: &mut Random, text: &[u8]) -> Vec<u8> {
+    let mut lines: Vec<Vec<u8>> = split(text, 10);
+    let is_row = |line: &[u8]| line.starts_with(b"member") || line.starts_with(b"value");
+    let rows: Vec<usize> = (0..lines.len()).filter(|&i| is_row(&lines[i])).collect();
+    if rows.is_empty() {
+        return damage_fields(random, text);
+    }
+    let chosen = *random.pick(&rows);
+    let mut fields = split(&lines[chosen], 9);
+    fields.truncate(4);
+    let word = match fields[0].starts_with(b"member") {
+        true => *random.pick(&words::WRONG),
+        false => "stop",
+    };
+    fields.push(word.as_bytes().to_vec());
+    lines[chosen] = fields.join(&9);
+    lines.join(&10)
+}
+
 fn damage_lines(random: &mut Random, text: &[u8]) -> Vec<u8> {
     let mut lines: Vec<&[u8]> = text.split_inclusive(|&byte| byte == 10).collect();
     if lines.is_empty() {
@@ -188,7 +218,8 @@ fn damage_fields(random: &mut Random, text: &[u8]) -> Vec<u8> {
     let at = random.below(fields.len() as u64) as usize;
     match random.below(14) {
         0 => fields.insert(at, Vec::new()),
-        1 => fields.push(fields[at].clone()),
+        1 if random.percent(50) => fields.push(fields[at].clone()),
+        1 => fields.push(random.pick(&WORDS).as_bytes().to_vec()),
         2 => {
             fields.remove(at);
         }

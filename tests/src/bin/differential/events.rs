@@ -6,6 +6,7 @@ use crate::run::{Run, Seen};
 use crate::stop_events;
 use crate::symbol_events;
 use crate::tally::Tally;
+use crate::word_events;
 use independent::datatype::Datatype;
 use independent::sheet;
 use independent::symbols::keeps_symbols;
@@ -38,6 +39,7 @@ pub fn note(tally: &mut Tally, run: &Run, seen: &Seen) {
     let sheets = (&run.source_sheet[..], &run.destination_sheet[..]);
     symbol_events::note(tally, "", sheets, number, run.count);
     real_events::note(tally, run, number);
+    word_events::note(tally, run, seen);
     note_pairs(tally, run);
 }
 

@@ -135,17 +135,20 @@ pub fn reals(random: &mut Random) -> (Model, Model) {
 /// of many bits: each pair has a number that raises an exception, or nearly
 /// each.
 pub fn unequal(random: &mut Random) -> (Model, Model) {
-    paired(random, 7, |random, from, to| {
-        let (first, second) = match random.below(9) {
-            0 | 1 => (Line::Int(widest(random)), Line::Int(atomic(random, 8))),
-            2 => (Line::Int(widest(random)), Line::Int(widest(random))),
-            3 => (unsigned(widest(random)), unsigned(atomic(random, 8))),
-            4 | 5 => return enums(random, from, to),
-            6 => (Line::Int(widest(random)), Line::Real(order(random))),
-            _ => (Line::Real(order(random)), Line::Int(wide(random))),
-        };
-        (from.push(first), to.push(second))
-    })
+    paired(random, 7, unequal_leaves)
+}
+
+/// Two leaves of one class, or an int and a real.
+pub fn unequal_leaves(random: &mut Random, from: &mut Model, to: &mut Model) -> (usize, usize) {
+    let (first, second) = match random.below(9) {
+        0 | 1 => (Line::Int(widest(random)), Line::Int(atomic(random, 8))),
+        2 => (Line::Int(widest(random)), Line::Int(widest(random))),
+        3 => (unsigned(widest(random)), unsigned(atomic(random, 8))),
+        4 | 5 => return enums(random, from, to),
+        6 => (Line::Int(widest(random)), Line::Real(order(random))),
+        _ => (Line::Real(order(random)), Line::Int(wide(random))),
+    };
+    (from.push(first), to.push(second))
 }
 
 /// Two sheets of a few leaves under mostly the same names, of every class,

@@ -3,19 +3,21 @@
 use crate::generate::{self, Maker, atomic};
 use crate::model::{Line, Model, Row};
 use crate::random::Random;
+use crate::words;
 
 /// A sheet at some limit; half of them are one past it.
 pub fn sheet(random: &mut Random) -> Vec<u8> {
     let past = random.percent(40);
-    match random.below(7) {
-        0 => types(random, if past { 65 } else { 64 }).text(),
-        1 => values(random, if past { 257 } else { 256 }).text(),
-        2 => wide(random, if past { 257 } else { 256 }).text(),
-        3 => length(random, if past { 16_385 } else { 16_384 }),
-        4 => deep(random, 64).text(),
-        5 => full(random, if past { 257 } else { 256 }).text(),
-        _ => large(random, if past { 4097 } else { 4096 }).text(),
-    }
+    let model = match random.below(7) {
+        0 => types(random, if past { 65 } else { 64 }),
+        1 => values(random, if past { 257 } else { 256 }),
+        2 => wide(random, if past { 257 } else { 256 }),
+        3 => return length(random, if past { 16_385 } else { 16_384 }),
+        4 => deep(random, 64),
+        5 => full(random, if past { 257 } else { 256 }),
+        _ => large(random, if past { 4097 } else { 4096 }),
+    };
+    words::text(random, &model)
 }
 
 /// Some valid sheet at the limits of all three kinds, as a model.
@@ -161,18 +163,22 @@ fn large(random: &mut Random, bytes: u64) -> Model {
     model
 }
 
-/// A sheet of exactly so many bytes, with nothing else wrong.
+/// A sheet of exactly so many bytes, with nothing else wrong: of values alone, or
+/// of members with words behind them.
 fn length(random: &mut Random, bytes: usize) -> Vec<u8> {
+    let members = if random.percent(50) { 54 } else { 0 };
+    let tail = worded_members(random, members);
+    let (bytes, values) = (bytes - tail.len(), 255 - members);
     let mut text = String::new();
     for _ in 0..60 {
         text.push_str("int\t8\tLE\t0\t64\tkeep\tzero\tunsigned\n");
     }
     text.push_str("enum\t7\n");
-    for number in 0..255 {
-        let long = 18_446_744_073_709_551_615_u64 - number;
+    for number in 0..values {
+        let long = 18_446_744_073_709_551_615_u64 - number as u64;
         let end = format!("\t{long}\n");
         let left = bytes - text.len();
-        let rows_left = 255 - number as usize;
+        let rows_left = values - number;
         // The names shrink where the room for the last rows asks for it.
         let most = left / rows_left - end.len() - 6;
         let width = if rows_left == 1 {
@@ -182,8 +188,24 @@ fn length(random: &mut Random, bytes: usize) -> Vec<u8> {
         };
         text.push_str(&format!("value\t{number:x>width$}{end}"));
     }
+    text.push_str(&tail);
     if random.percent(20) {
         text = text.replace("keep", "kee");
     }
     text.into_bytes()
+}
+
+/// A compound of so many members of 8 bytes each, all with a word; nothing for
+/// none.
+fn worded_members(random: &mut Random, members: usize) -> String {
+    let mut text = String::new();
+    if members > 0 {
+        text.push_str("comp\t4096\n");
+    }
+    for number in 0..members {
+        let word = random.pick(&["clamp", "stop"]);
+        let at = 1024 + 8 * number;
+        text.push_str(&format!("member\t{number:m>31}\t{at}\t{number}\t{word}\n"));
+    }
+    text
 }

@@ -2,6 +2,7 @@
 //! up to the first faulty line or some way past it.
 
 use crate::random::Random;
+use crate::words;
 use independent::datatype::Datatype;
 use independent::number;
 use independent::sheet;
@@ -56,7 +57,7 @@ fn line(random: &mut Random, grown: &Grown) -> Vec<u8> {
     if random.percent(3) {
         fields.push(
             random
-                .pick(&["", "0", "zero", "unsigned"])
+                .pick(&["", "0", "zero", "unsigned", "stop", "clamp"])
                 .as_bytes()
                 .to_vec(),
         );
@@ -188,5 +189,11 @@ fn member(random: &mut Random, grown: &Grown) -> Vec<Vec<u8>> {
         near(random, &places)
     };
     let datatype = near(random, &[some as i128]);
-    vec![b"member".to_vec(), name(random), place, datatype]
+    let mut fields = vec![b"member".to_vec(), name(random), place, datatype];
+    if random.percent(40) {
+        fields.push(word(random, &["clamp", "stop"]));
+    } else if random.percent(20) {
+        fields.push(random.pick(&words::WRONG).as_bytes().to_vec());
+    }
+    fields
 }

@@ -9,6 +9,7 @@ mod block_piece_events;
 mod block_pieces;
 mod block_sheets;
 mod block_symbol_events;
+mod block_words;
 mod blocks;
 mod capi;
 mod compare_events;
@@ -47,7 +48,12 @@ mod stops;
 mod symbol_events;
 mod symbols;
 mod tally;
+mod trees;
 mod watch;
+mod word_events;
+mod word_laws;
+mod worded;
+mod words;
 
 use random::Random;
 use tally::Tally;
@@ -130,70 +136,72 @@ fn run_cases(options: &Options) -> bool {
     missing.is_empty()
 }
 
+/// How a case of some sort is made and run.
+type Case = fn(&mut Random, &mut Tally) -> Result<(), String>;
+
+/// The sorts of cases, each with its share of all.
+const SORTS: [(u64, &str, Case); 31] = [
+    (1, "conversion of 65,536 records", convert::long_case),
+    (29, "conversion at the limits", convert::limit_case),
+    (320, "conversion", |random, tally| {
+        convert::case(random, tally, 4)
+    }),
+    (200, "conversion with many refusals", |random, tally| {
+        convert::case(random, tally, 35)
+    }),
+    (250, "leaf list", others::list_case),
+    (95, "setters", others::setter_case),
+    (8, "which bits show", reaches::case),
+    (97, "properties", properties::case),
+    (
+        1,
+        "report of 65,536 records",
+        |random, tally| match random.percent(70) {
+            true => reports::long_case(random, tally),
+            false => report_laws::full_season(random, tally),
+        },
+    ),
+    (19, "report at the limits", reports::limit_case),
+    (100, "report", |random, tally| {
+        reports::case(random, tally, 3)
+    }),
+    (75, "report with many refusals", |random, tally| {
+        reports::case(random, tally, 25)
+    }),
+    (55, "report's laws", report_laws::case),
+    (50, "conversion of reals", convert::real_case),
+    (60, "conversion that stops", stops::case),
+    (1, "comparison of 65,536 records", compares::long_case),
+    (14, "comparison at the limits", compares::limit_case),
+    (60, "comparison", |random, tally| {
+        compares::case(random, tally, 3)
+    }),
+    (25, "comparison with many refusals", |random, tally| {
+        compares::case(random, tally, 25)
+    }),
+    (30, "comparison's laws", compare_laws::case),
+    (50, "symbols", symbols::case),
+    (70, "conversion in blocks", blocks::case),
+    (46, "enums in blocks", blocks::enum_case),
+    (24, "leaves that stay, in blocks", blocks::staying_case),
+    (28, "equal parts in blocks", blocks::part_case),
+    (14, "STOP in blocks", blocks::stop_case),
+    (16, "report in blocks", blocks::report_case),
+    (24, "many rows", crowded::case),
+    (20, "plain forms and the report", plain::case),
+    (50, "words", worded::case),
+    (24, "words in blocks", block_words::case),
+];
+
 fn run_case(random: &mut Random, tally: &mut Tally) -> Result<(), String> {
-    let choice = random.below(1766);
-    let (kind, result) = match choice {
-        0 => (
-            "conversion of 65,536 records",
-            convert::long_case(random, tally),
-        ),
-        1..=29 => (
-            "conversion at the limits",
-            convert::limit_case(random, tally),
-        ),
-        30..=349 => ("conversion", convert::case(random, tally, 4)),
-        350..=549 => (
-            "conversion with many refusals",
-            convert::case(random, tally, 35),
-        ),
-        550..=799 => ("leaf list", others::list_case(random, tally)),
-        800..=894 => ("setters", others::setter_case(random, tally)),
-        895..=902 => ("which bits show", reaches::case(random, tally)),
-        903..=999 => ("properties", properties::case(random, tally)),
-        1000 => (
-            "report of 65,536 records",
-            if random.percent(70) {
-                reports::long_case(random, tally)
-            } else {
-                report_laws::full_season(random, tally)
-            },
-        ),
-        1001..=1019 => ("report at the limits", reports::limit_case(random, tally)),
-        1020..=1119 => ("report", reports::case(random, tally, 3)),
-        1120..=1194 => (
-            "report with many refusals",
-            reports::case(random, tally, 25),
-        ),
-        1195..=1249 => ("report's laws", report_laws::case(random, tally)),
-        1250..=1299 => ("conversion of reals", convert::real_case(random, tally)),
-        1300..=1359 => ("conversion that stops", stops::case(random, tally)),
-        1360 => (
-            "comparison of 65,536 records",
-            compares::long_case(random, tally),
-        ),
-        1361..=1374 => (
-            "comparison at the limits",
-            compares::limit_case(random, tally),
-        ),
-        1375..=1434 => ("comparison", compares::case(random, tally, 3)),
-        1435..=1459 => (
-            "comparison with many refusals",
-            compares::case(random, tally, 25),
-        ),
-        1460..=1489 => ("comparison's laws", compare_laws::case(random, tally)),
-        1490..=1539 => ("symbols", symbols::case(random, tally)),
-        1540..=1605 => ("conversion in blocks", blocks::case(random, tally)),
-        1606..=1645 => ("enums in blocks", blocks::enum_case(random, tally)),
-        1646..=1669 => (
-            "leaves that stay, in blocks",
-            blocks::staying_case(random, tally),
-        ),
-        1670..=1697 => ("equal parts in blocks", blocks::part_case(random, tally)),
-        1698..=1705 => ("STOP in blocks", blocks::stop_case(random, tally)),
-        1706..=1721 => ("report in blocks", blocks::report_case(random, tally)),
-        1722..=1745 => ("many rows", crowded::case(random, tally)),
-        _ => ("plain forms and the report", plain::case(random, tally)),
-    };
-    tally.saw(&format!("case: {kind}"));
-    result.map_err(|fault| format!("({kind}) {fault}"))
+    let all = SORTS.iter().map(|(share, ..)| share).sum();
+    let mut choice = random.below(all);
+    for (share, sort, case) in SORTS {
+        if choice < share {
+            tally.saw(&format!("case: {sort}"));
+            return case(random, tally).map_err(|fault| format!("({sort}) {fault}"));
+        }
+        choice -= share;
+    }
+    unreachable!("the shares are those of all sorts");
 }

@@ -2,7 +2,7 @@
 
 use crate::generate::place;
 use crate::random::Random;
-use independent::datatype::{Atomic, Order, Pad};
+use independent::datatype::{Atomic, Order, Pad, Word};
 use independent::number;
 
 pub type Name = Vec<u8>;
@@ -28,7 +28,7 @@ pub enum Line {
     },
 }
 
-/// A member line.
+/// A member line. Its word is chosen when the text is written.
 #[derive(Clone)]
 pub struct Row {
     pub name: Name,
@@ -114,23 +114,32 @@ impl Model {
             .collect()
     }
 
+    /// The text without a word.
     pub fn text(&self) -> Vec<u8> {
+        self.worded(|| None)
+    }
+
+    /// The text with the word that `word` gives for each member.
+    pub fn worded(&self, mut word: impl FnMut() -> Option<Word>) -> Vec<u8> {
         let mut text = Vec::new();
         for line in &self.types {
-            write_type(&mut text, line);
+            write_type(&mut text, line, &mut word);
         }
         text
     }
 }
 
-fn write_type(text: &mut Vec<u8>, line: &Line) {
+fn write_type(text: &mut Vec<u8>, line: &Line, word: &mut impl FnMut() -> Option<Word>) {
     match line {
         Line::Int(layout) => {
             let sign = if layout.signed { "signed" } else { "unsigned" };
             put(text, &format!("int\t{}\t{sign}\n", atomic(layout)));
         }
         Line::Bits(layout) => put(text, &format!("bits\t{}\n", atomic(layout))),
-        Line::Real(order) => put(text, &format!("real\t{REAL_BYTES}\t{}\n", word(*order))),
+        Line::Real(order) => put(
+            text,
+            &format!("real\t{REAL_BYTES}\t{}\n", order_word(*order)),
+        ),
         Line::Enum { base, values } => {
             put(text, &format!("enum\t{base}\n"));
             for (name, number) in values {
@@ -144,7 +153,12 @@ fn write_type(text: &mut Vec<u8>, line: &Line) {
             for row in members {
                 put(text, "member\t");
                 text.extend(&row.name);
-                put(text, &format!("\t{}\t{}\n", row.at, row.datatype));
+                let word = match word() {
+                    None => "",
+                    Some(Word::Clamp) => "\tclamp",
+                    Some(Word::Stop) => "\tstop",
+                };
+                put(text, &format!("\t{}\t{}{word}\n", row.at, row.datatype));
             }
         }
         Line::Array { base, dimensions } => {
@@ -161,7 +175,7 @@ fn put(text: &mut Vec<u8>, words: &str) {
     text.extend(words.as_bytes());
 }
 
-fn word(order: Order) -> &'static str {
+fn order_word(order: Order) -> &'static str {
     match order {
         Order::LittleEndian => "LE",
         Order::BigEndian => "BE",
@@ -177,7 +191,7 @@ fn atomic(layout: &Atomic) -> String {
     format!(
         "{}\t{}\t{}\t{}\t{}\t{}",
         layout.size,
-        word(layout.order),
+        order_word(layout.order),
         layout.offset,
         layout.precision,
         pad(layout.lsb),

@@ -11,6 +11,8 @@ use crate::random::Random;
 use crate::run::{self, Seen};
 use crate::sizes;
 use crate::tally::Tally;
+use crate::word_events;
+use crate::words;
 use independent::datatype::{Order, Pad};
 use independent::list;
 use independent::setters::{self, Setter, Words};
@@ -20,13 +22,18 @@ use independent::sheet;
 fn any_sheet(random: &mut Random) -> Vec<u8> {
     match random.below(12) {
         0 => limits::sheet(random),
-        1..=3 => convert::model(random).text(),
+        1..=3 => valid(random),
         4..=7 => lines::sheet(random),
         _ => {
-            let text = convert::model(random).text();
+            let text = valid(random);
             damage(random, &text)
         }
     }
+}
+
+fn valid(random: &mut Random) -> Vec<u8> {
+    let model = convert::model(random);
+    words::text(random, &model)
 }
 
 pub fn list_case(random: &mut Random, tally: &mut Tally) -> Result<(), String> {
@@ -60,6 +67,7 @@ pub fn list_case(random: &mut Random, tally: &mut Tally) -> Result<(), String> {
         return Err(format!("{fault}\n{}", told()));
     }
     tally.answer("leaf list", seen.answer[0]);
+    word_events::note_call(tally, "leaf list", &[&text], seen.answer[0]);
     if seen.answer[0] == 0 && datatype.is_ok_and(|datatype| datatype.size() == 4096) {
         tally.saw("list of 4,096-byte records");
     }

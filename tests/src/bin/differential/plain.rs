@@ -1,6 +1,6 @@
 //! Cases of the plain forms beside the calls that name a handling, over the same
 //! sheets, records and background: a plain form is as handling 1, and the report
-//! as handling 0.
+//! as handling 0 where no member of the reader has a word.
 
 use crate::block_sheets::narrowed;
 use crate::blocks::FEWEST;
@@ -11,8 +11,9 @@ use crate::random::Random;
 use crate::records::records;
 use crate::report_run::{self, ReportRun};
 use crate::reports;
-use crate::run::{self, Form, Run, Seen, tell};
+use crate::run::{self, Form, Run, Seen, check};
 use crate::tally::Tally;
+use crate::words;
 use independent::call::{CLAMP, STOP};
 use independent::report::EXCEPTIONS;
 
@@ -33,7 +34,7 @@ pub fn case(random: &mut Random, tally: &mut Tally) -> Result<(), String> {
         true => paired(random, 5, narrowed),
         false => reports::models(random, 0),
     };
-    let sheets = (from.text(), reader.text());
+    let sheets = words::texts(random, &from, &reader);
     let made = with_types(&sheets.0, &sheets.1, |source, _, matches| {
         let most = 4000 / (matches.len() as u64 + source.size() / 8 + 1) + 1;
         let count = (*random.pick(&COUNTS)).min(most);
@@ -58,13 +59,6 @@ fn converting(report: &ReportRun, form: Form, handling: u32) -> Run {
         first: report.log.clone(),
         second: report.background.clone(),
         table: report.table.clone(),
-    }
-}
-
-fn check(holds: bool, what: &str, run: &Run) -> Result<(), String> {
-    match holds {
-        true => Ok(()),
-        false => Err(format!("{what}\n{}", tell(run))),
     }
 }
 
@@ -103,7 +97,8 @@ fn report_is_clamp(
     if !seen.is_done() {
         return Ok(());
     }
-    let run = converting(report, Form::InPlace, CLAMP);
+    let mut run = converting(report, Form::InPlace, CLAMP);
+    run.destination_sheet = words::off(&report.reader_sheet);
     let named = run::both(random, &run)?;
     check(named.answer[0] == 0, "handling 0 refuses", &run)?;
     check(

@@ -5,10 +5,11 @@ use crate::convert::{self, with_types};
 use crate::derive::derive;
 use crate::random::Random;
 use crate::records::{fitting, put, records, with_other_free_bits};
-use crate::run::{self, FORMS, Form, Run, Seen, tell};
+use crate::run::{self, FORMS, Form, Run, Seen, check};
 use crate::sizes;
 use crate::symbol_events::is_turned;
 use crate::tally::Tally;
+use crate::words;
 use independent::call::part;
 use independent::datatype::Datatype;
 use independent::number;
@@ -25,9 +26,15 @@ struct Setting<'a> {
 
 pub fn case(random: &mut Random, tally: &mut Tally) -> Result<(), String> {
     refused_case(random, tally)?;
-    let model = convert::model(random);
-    let (from, to) = (model.text(), derive(random, &model).text());
+    let (from, to) = sheets(random);
     hold(random, tally, &from, &to)
+}
+
+/// Two sheets that mostly have a path.
+fn sheets(random: &mut Random) -> (Vec<u8>, Vec<u8>) {
+    let model = convert::model(random);
+    let other = derive(random, &model);
+    words::texts(random, &model, &other)
 }
 
 /// All of them between two sheets, if there is a path.
@@ -80,14 +87,6 @@ impl Setting<'_> {
     /// nD.
     fn converted(&self) -> usize {
         (self.run.count * self.to.size()) as usize
-    }
-}
-
-fn check(holds: bool, what: &str, run: &Run) -> Result<(), String> {
-    if holds {
-        Ok(())
-    } else {
-        Err(format!("{what}\n{}", tell(run)))
     }
 }
 
@@ -247,8 +246,7 @@ fn changed_number_shows(
 
 /// Where a check before STOP refuses, data bytes do not show at all.
 fn refused_case(random: &mut Random, tally: &mut Tally) -> Result<(), String> {
-    let model = convert::model(random);
-    let (from, to) = (model.text(), derive(random, &model).text());
+    let (from, to) = sheets(random);
     let run = convert::make(random, 20, from, to);
     let seen = run::both(random, &run)?;
     sizes::of_run(random, tally, &run)?;

@@ -7,18 +7,21 @@ use crate::derive::derive;
 use crate::generate;
 use crate::random::Random;
 use crate::records::{put, records};
-use crate::run::{self, FORMS, Form, NAMING, Run, Seen, tell};
+use crate::run::{self, FORMS, Form, NAMING, Run, Seen, check};
 use crate::tally::Tally;
-use independent::call::Call;
-use independent::datatype::{Datatype, Order};
+use crate::word_events;
+use crate::words::{self, Share};
+use independent::call::{CLAMP, Call};
+use independent::datatype::{Datatype, Order, Word};
 use independent::number;
+use independent::obey;
 use independent::paths::{self, Match};
 use independent::reach;
 use independent::sheet;
 
 pub const ANSWERS: [u64; 7] = [0, 2, 3, 4, 5, 7, 12];
 
-pub const NEEDED: [&str; 43] = [
+pub const NEEDED: [&str; 44] = [
     "case: which bits show",
     "reach: a mask short by one byte",
     "reach: just the room for the mask",
@@ -49,6 +52,7 @@ pub const NEEDED: [&str; 43] = [
     "witness: past record 0",
     "witness: copying",
     "witness: in place",
+    "witness: clamped by words",
     "witness: in the converted bytes",
     "witness: in the count alone",
     "witness: a sign's bit",
@@ -80,7 +84,7 @@ pub fn of_run(random: &mut Random, tally: &mut Tally, run: &Run) -> Result<(), S
 }
 
 /// Runs the call and compares everything that it leaves.
-fn ask(
+pub fn ask(
     random: &mut Random,
     tally: &mut Tally,
     (from, to): (&[u8], &[u8]),
@@ -115,6 +119,7 @@ fn ask(
 fn note(tally: &mut Tally, (from, to): (&[u8], &[u8]), length: u64, seen: &Seen) {
     let [number, size, line, ..] = seen.answer;
     tally.answer("reach", number);
+    word_events::note_call(tally, "reach", &[from, to], number);
     let (source, destination) = (sheet::read(from), sheet::read(to));
     let mut saw = |holds: bool, what: &str| {
         if holds {
@@ -207,7 +212,15 @@ pub fn case(random: &mut Random, tally: &mut Tally) -> Result<(), String> {
         }
         _ => generate::showing(random),
     };
-    let (from, to) = (from.text(), to.text());
+    let share = match random.below(4) {
+        0 => words::some(random),
+        1 => Share {
+            silent: *random.pick(&[0, 50]),
+            stop: 0,
+        },
+        _ => words::NONE,
+    };
+    let (from, to) = (words::text(random, &from), words::with(random, &to, share));
     let table = random.words(8192);
     let tried = with_types(&from, &to, |source, destination, matches| {
         let seen = ask(random, tally, (&from, &to), source.size(), &table)?;
@@ -223,17 +236,13 @@ pub fn case(random: &mut Random, tally: &mut Tally) -> Result<(), String> {
             table,
         };
         setting.flips(random, tally)?;
-        setting.witnesses(random, tally)
+        // A leaf that obeys stop hides every later one where it raises.
+        match setting.all_obey(Word::Clamp) {
+            true => setting.witnesses(random, tally),
+            false => Ok(()),
+        }
     });
     tried.unwrap_or(Ok(()))
-}
-
-fn check(holds: bool, what: &str, run: &Run) -> Result<(), String> {
-    if holds {
-        Ok(())
-    } else {
-        Err(format!("{what}\n{}", tell(run)))
-    }
 }
 
 /// Turns one bit: bit 0 is the lowest of its byte.
@@ -259,6 +268,22 @@ impl Setting<'_> {
             first,
             second: background.to_vec(),
             table: self.table.clone(),
+        }
+    }
+
+    /// Whether no word on the way of a matched leaf says otherwise.
+    fn all_obey(&self, word: Word) -> bool {
+        let said = |pair: &Match| obey::innermost(self.to, &pair.to.way);
+        let mut words = self.matches.iter().map(said);
+        words.all(|own| own.is_none_or(|own| own == word))
+    }
+
+    /// A call in which every leaf clamps: of any form, if words say so.
+    fn clamping(&self, random: &mut Random) -> (Form, u32) {
+        let said = |pair: &Match| obey::innermost(self.to, &pair.to.way);
+        match self.matches.iter().all(|pair| said(pair).is_some()) {
+            true => (*random.pick(&FORMS), random.below(2) as u32),
+            false => (*random.pick(&NAMING), CLAMP),
         }
     }
 
@@ -388,10 +413,11 @@ impl Setting<'_> {
         at: (u64, u64, u64),
     ) -> Result<(), String> {
         let sources = self.two(random, pair, at);
-        let form = *random.pick(&NAMING);
+        let (form, handling) = self.clamping(random);
         let converted = (self.to.size() * at.1) as usize;
         let background = random.bytes(converted);
-        let (seen, again, run) = self.run_two(random, (form, 0), &sources, &background)?;
+        let call = (form, handling);
+        let (seen, again, run) = self.run_two(random, call, &sources, &background)?;
         let are_done = seen.answer[0] == 0 && again.answer[0] == 0;
         check(are_done, "a witness is refused", &run)?;
         let in_bytes = seen.written[..converted] != again.written[..converted];
@@ -409,6 +435,9 @@ impl Setting<'_> {
             true => "witness: copying",
             false => "witness: in place",
         });
+        if run.stops() {
+            tally.saw("witness: clamped by words");
+        }
         if at.2 > 0 {
             tally.saw("witness: past record 0");
         }
@@ -428,8 +457,8 @@ impl Setting<'_> {
         Ok(())
     }
 
-    /// A source enum without a value: with handling 0 every number raises alike.
-    /// With handling 1 STOP names the number of the first raising leaf: in
+    /// A source enum without a value: clamped, every number raises alike. With
+    /// handling 1 and no word against it STOP names the number of the first raising leaf: in
     /// record 0 the first such enum, and never another one.
     fn valueless(
         &self,
@@ -440,11 +469,14 @@ impl Setting<'_> {
     ) -> Result<(), String> {
         let mut sources = self.two(random, pair, at);
         let background = random.bytes((self.to.size() * at.1) as usize);
-        let form = *random.pick(&NAMING);
-        let (seen, again, run) = self.run_two(random, (form, 0), &sources, &background)?;
+        let call = self.clamping(random);
+        let (seen, again, run) = self.run_two(random, call, &sources, &background)?;
         let same = (seen.answer, &seen.written) == (again.answer, &again.written);
         check(same, "an enum without a value shows", &run)?;
         tally.saw("witness: an enum without a value is hidden");
+        if !self.all_obey(Word::Stop) {
+            return Ok(());
+        }
 
         // Every other leaf fits: an enum has the number of its first symbol.
         for bytes in [&mut sources.0, &mut sources.1] {

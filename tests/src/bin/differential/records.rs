@@ -39,6 +39,18 @@ pub fn records(random: &mut Random, size: u64, count: u64, matches: &[Match]) ->
     bytes
 }
 
+/// Source records whose numbers all fit, where a pair has one that does.
+pub fn fitting_records(random: &mut Random, size: u64, count: u64, matches: &[Match]) -> Vec<u8> {
+    let mut bytes = random.bytes((size * count) as usize);
+    for record in bytes.chunks_mut(size as usize) {
+        for pair in matches {
+            let number = fitting(random, pair);
+            put(pair, number, record);
+        }
+    }
+    bytes
+}
+
 /// Writes a number into a pair's source leaf, pads as they are.
 pub fn put(pair: &Match, number: Option<i128>, record: &mut [u8]) {
     let kept = Atomic {

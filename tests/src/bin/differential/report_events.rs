@@ -6,6 +6,7 @@ use crate::refusals::{Refusals, is_short};
 use crate::report_run::{ReportRun, ReportSeen, expected};
 use crate::symbol_events;
 use crate::tally::Tally;
+use crate::word_events;
 use independent::datatype::Datatype;
 use independent::number;
 use independent::paths;
@@ -17,6 +18,8 @@ use independent::symbols::keeps_symbols;
 
 pub fn note(tally: &mut Tally, run: &ReportRun, seen: &ReportSeen) {
     tally.answer("report", seen.answer[0]);
+    let sheets = [&run.source_sheet[..], &run.reader_sheet];
+    word_events::note_call(tally, "report", &sheets, seen.answer[0]);
     let (from, to) = (
         sheet::read(&run.source_sheet),
         sheet::read(&run.reader_sheet),

@@ -11,6 +11,7 @@ use crate::records::{records, with_other_free_bits};
 use crate::report_run::{ReportRun, ReportSeen, both, tell};
 use crate::reports::{make, models, reader_of};
 use crate::tally::Tally;
+use crate::words;
 use independent::report::{MOST_RECORDS, RECORDS, int_leaves, words};
 use independent::symbols::keeps_symbols;
 use std::ops::Range;
@@ -41,7 +42,7 @@ struct Log {
 impl Log {
     /// None where there is no path, or a symbol would be lost.
     fn new(random: &mut Random, source: &Model, reader: &Model) -> Option<Log> {
-        let (source_sheet, reader_sheet) = (source.text(), reader.text());
+        let (source_sheet, reader_sheet) = words::texts(random, source, reader);
         let made = with_types(&source_sheet, &reader_sheet, |from, to, matches| {
             let most = 1500 / (matches.len() as u64 + 1) + 1;
             let count = random.between(0, most.min(12));
@@ -257,7 +258,7 @@ fn season(random: &mut Random, tally: &mut Tally, reader: &Model) -> Result<(), 
 pub fn full_season(random: &mut Random, tally: &mut Tally) -> Result<(), String> {
     let reader = generate::sheet(random, 2);
     let reader = reader_of(random, 0, &reader);
-    let text = reader.text();
+    let text = words::text(random, &reader);
     let mut run = make(random, 0, text.clone(), text);
     let filled = with_types(
         &run.source_sheet.clone(),
@@ -296,7 +297,8 @@ pub fn full_season(random: &mut Random, tally: &mut Tally) -> Result<(), String>
 /// Where a check before the last one refuses, log and background do not show.
 fn refused_case(random: &mut Random, tally: &mut Tally) -> Result<(), String> {
     let (from, reader) = models(random, 20);
-    let run = make(random, 20, from.text(), reader.text());
+    let (from, reader) = words::texts(random, &from, &reader);
+    let run = make(random, 20, from, reader);
     let seen = both(random, &run)?;
     let unhurt = seen.log == run.log && seen.memory == run.memory && seen.output == run.output;
     check(

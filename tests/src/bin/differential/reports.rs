@@ -11,6 +11,7 @@ use crate::records::records;
 use crate::report_events;
 use crate::report_run::{self, ReportRun, expected};
 use crate::tally::Tally;
+use crate::words;
 use independent::report::{int_leaves, words};
 use independent::sheet;
 
@@ -28,7 +29,8 @@ pub fn limit_case(random: &mut Random, tally: &mut Tally) -> Result<(), String> 
     let model = limits::valid(random);
     let reader = derive(random, &model);
     let reader = reader_of(random, 3, &reader);
-    let run = make(random, 3, model.text(), reader.text());
+    let (from, reader) = words::texts(random, &model, &reader);
+    let run = make(random, 3, from, reader);
     finish(random, tally, &run)
 }
 
@@ -37,7 +39,7 @@ pub fn long_case(random: &mut Random, tally: &mut Tally) -> Result<(), String> {
     let model = convert::few_bytes(random);
     let reader = derive(random, &model);
     let reader = reader_of(random, 0, &reader);
-    let (from, reader) = (model.text(), reader.text());
+    let (from, reader) = words::texts(random, &model, &reader);
     let count = 65_536;
     let log = with_types(&from, &reader, |from, _, matches| {
         records(random, from.size(), count, matches)

@@ -167,6 +167,14 @@ where
     ))
 }
 
+/// What does not hold of a run, told with the run.
+pub fn check(holds: bool, what: &str, run: &Run) -> Result<(), String> {
+    match holds {
+        true => Ok(()),
+        false => Err(format!("{what}\n{}", tell(run))),
+    }
+}
+
 /// A run in words, long buffers cut.
 pub fn tell(run: &Run) -> String {
     let handling = if run.form.is_plain() {

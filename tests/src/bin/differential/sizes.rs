@@ -5,6 +5,7 @@ use crate::random::Random;
 use crate::real_events;
 use crate::run::{self, Run, Seen};
 use crate::tally::Tally;
+use crate::word_events;
 use independent::sheet;
 use independent::size;
 
@@ -39,11 +40,15 @@ pub fn of_sheet(
 fn note(tally: &mut Tally, text: &[u8], seen: &Seen) {
     let [number, size, line, ..] = seen.answer;
     tally.answer("record size", number);
+    word_events::note_call(tally, "record size", &[text], number);
     match number {
         0 if size == 4096 => tally.saw("record size 4,096"),
         2 if sheet::read(text).is_err() => tally.saw("record size, 2 and 3 at once"),
         3 if line == 0 => tally.saw("record size, SOURCE at line 0"),
-        3 => real_events::note_fault(tally, text, line),
+        3 => {
+            real_events::note_fault(tally, text, line);
+            word_events::note_fault(tally, text, line);
+        }
         _ => {}
     }
 }

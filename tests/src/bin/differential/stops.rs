@@ -7,6 +7,7 @@ use crate::random::Random;
 use crate::records::{put, records};
 use crate::run::{FORMS, Run};
 use crate::tally::Tally;
+use crate::words;
 use independent::datatype::Datatype;
 use independent::number;
 use independent::paths::Match;
@@ -16,7 +17,7 @@ use independent::real::{INFINITY, SIGN};
 /// its pair has a number that does.
 pub fn case(random: &mut Random, tally: &mut Tally) -> Result<(), String> {
     let (from, to) = generate::unequal(random);
-    let (from, to) = (from.text(), to.text());
+    let (from, to) = words::texts(random, &from, &to);
     let made = with_types(&from, &to, |source, destination, matches| {
         let count = random.between(1, 6);
         let form = *random.pick(&FORMS);

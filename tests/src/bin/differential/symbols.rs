@@ -9,11 +9,12 @@ use crate::random::Random;
 use crate::reports;
 use crate::symbol_events;
 use crate::tally::Tally;
+use crate::words;
 
 /// A conversion, a report and a comparison between the same two sheets.
 pub fn case(random: &mut Random, tally: &mut Tally) -> Result<(), String> {
     let (from, to) = generate::symbols(random);
-    let (from, to) = (from.text(), to.text());
+    let (from, to) = words::texts(random, &from, &to);
     let run = convert::make(random, 6, from.clone(), to.clone());
     convert::finish(random, tally, &run)?;
     let run = reports::make(random, 6, from.clone(), to.clone());

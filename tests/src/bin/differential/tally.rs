@@ -11,6 +11,8 @@ use crate::real_events;
 use crate::run::{FORMS, NAMING};
 use crate::stop_events;
 use crate::symbol_events;
+use crate::word_events;
+use crate::word_laws;
 use std::collections::BTreeMap;
 
 #[derive(Default)]
@@ -151,12 +153,14 @@ impl Tally {
             &reaches::NEEDED,
             &crowded::NEEDED,
             &plain::NEEDED,
+            &word_laws::NEEDED,
         ];
         let all = lists.iter().flat_map(|list| list.iter());
         let mut needed: Vec<String> = all.map(|what| what.to_string()).collect();
         needed.extend(answers());
         needed.extend(block_events::needed());
         needed.extend(stop_events::needed());
+        needed.extend(word_events::needed());
         needed.retain(|what| !self.0.contains_key(what));
         needed
     }
