@@ -38,6 +38,8 @@ Type add_enum(Side *s, Type base);
 void add_value(Side *s, Type of, const char *name, int number);
 Type add_compound(Side *s, int size);
 void add_member(Side *s, Type of, const char *name, int at, Type type);
+// The word that the last line, which is a member's, ends in.
+void add_word(Side *s, const char *word);
 
 // ---- workloads (workloads.c)
 

@@ -98,3 +98,8 @@ void add_member(Side *s, Type of, const char *name, int at, Type type) {
     (void)of;
 #endif
 }
+
+void add_word(Side *s, const char *word) {
+    s->sheet[strlen(s->sheet) - 1] = '\0';
+    add_line(s, "\t%s\n", word);
+}

@@ -89,6 +89,14 @@ static void twelve_bits(Workload *w) { alike(w, twelve, (Int){4, 0, 0, 32, 0, 0}
 static void turned_twelve_bits(Workload *w) { alike(w, twelve, (Int){2, 0, 4, 12, 0, 0}, 1); }
 static void same_12_bits(Workload *w) { alike(w, twelve, twelve, 1); }
 static void twelve_to_8(Workload *w) { alike(w, twelve, (Int){1, 0, 0, 8, 0, 0}, 1); }
+static void one_of_8_stops(Workload *w) {
+    twelve_to_8(w);
+    add_word(&w->destination, "stop");
+}
+static void one_of_8_clamps(Workload *w) {
+    twelve_to_8(w);
+    add_word(&w->destination, "clamp");
+}
 static void zero_pads(Workload *w) { alike(w, twelve, (Int){2, 0, 2, 12, 0, 0}, 1); }
 static void keep_pads(Workload *w) { alike(w, twelve, (Int){2, 0, 2, 12, 0, 1}, 1); }
 static void i32_to_i16(Workload *w) { alike(w, (Int){4, 0, 0, 32, 1, 0}, (Int){2, 0, 0, 16, 1, 0}, 0); }
@@ -410,6 +418,8 @@ Workload conversions[] = {
     {"12 bits in 16, keep pads", 8, keep_pads, .fill = any, .plain = plain_keep_pads, .targets = {40, 40, 1.2, 3}, .other_bytes = keeps_zero},
     {"8 whole-byte members, handling 1", 8, whole_bytes, .fill = any, .handling = 1, LOOPS(whole_bytes)},
     {"12 bits to 8, handling 1", 8, twelve_to_8, .fill = in_range, .handling = 1, LOOPS(stop_twelve_to_8)},
+    {"12 bits to 8, one of 8 obeys stop, handling 0", 8, one_of_8_stops, .fill = in_range, LOOPS(twelve_to_8)},
+    {"12 bits to 8, one of 8 obeys clamp, handling 1", 8, one_of_8_clamps, .fill = in_range, .handling = 1, LOOPS(stop_twelve_to_8)},
     {"i32 to i16, handling 1", 8, i32_to_i16, .fill = in_range, .handling = 1, LOOPS(stop_i32_to_i16), .targets = {1.5, 1.5, 0, 3}},
     {"u16 to i16, handling 1", 8, u16_to_i16, .fill = in_range, .handling = 1, LOOPS(stop_u16_to_i16), .targets = {1.5, 1.5, 0, 3}},
     {"4 enums of 3 symbols", 4, enums_of_3, .fill = symbols_of_3, LOOPS(enums_of_3)},
