@@ -277,6 +277,14 @@ def check_conversions(page, text):
         expect((stopped.kind if stopped else "none") == (kind if kind == "none" else number(kind)), page, f"{given} from {source} to {destination}: {stopped}")
         count = convert_copying(sheet(source), sheet(destination), 1, Handling.CLAMP, data(given), out)
         expect(out == data(wanted) and count == (kind != "none"), page, f"{given} from {source} to {destination} gives {out.hex(' ')}, count {count}")
+    for source, destination, handling, given, wanted in rows(page, text, "| From | To | Handling | Bytes | Gives |"):
+        out = bytearray(record_size(sheet(destination)))
+        try:
+            count = convert_copying(sheet(source), sheet(destination), 1, Handling[handling.upper()], data(given), out)
+            found = f"`{out.hex(' ')}`, {count} exception{'s' * (count != 1)}"
+        except Refusal as refused:
+            found = f"{refused.name} at byte {refused.at}"
+        expect(found == wanted, page, f"{given} from {source} to {destination}, {handling}: {found}")
     for source, destination, given, wanted, words in rows(page, text, "| From | To | Bytes | Number | Words 6 and 7 |"):
         stopped = refusal(convert_copying, sheet(source), sheet(destination), 1, Handling.STOP, data(given), bytearray(8))
         named = stopped and (repr(stopped.given), stopped.answer[6:]) == (wanted.replace("−", "-"), tuple(int(word, 0) for word in words.split(", ")))

@@ -156,9 +156,30 @@ def the_valve_alone():
         print(f"{record.hex(' ')} -> {out.hex()}, count {count}; {len(flips_that_show(convert, record))} flips show")
 
 
+def which_leaf_stops():
+    def run_of_laps(byte, *words):
+        run, oil = words or ("", "")
+        laps = ("comp 2", "member boost 0 0", f"member oil 1 0 {oil}".rstrip(), "array 1 2", "comp 4", "member laps 0 2")
+        return sheet(byte, *laps, "comp 4", f"member run 0 3 {run}".rstrip())
+
+    signed = BYTE.replace("unsigned", "signed")
+    said = (run_of_laps(BYTE), run_of_laps(signed, "stop", "clamp"))
+    silent = (run_of_laps(BYTE, "stop", "clamp"), run_of_laps(signed))
+    for what, sheets in (("words of the destination", said), ("words of the source", silent)):
+        print(f"{what}:")
+        for record in ("64 c8 c8 c8", "64 c8 64 c8"):
+            for handling in Handling:
+                out = bytearray(4)
+                try:
+                    count = convert_copying(*sheets, 1, handling, bytes.fromhex(record), out)
+                    print(f"{record}, {handling.name.lower()}: {out.hex(' ')}, count {count}")
+                except Refusal as refused:
+                    print(f"{record}, {handling.name.lower()}: STOP at byte {refused.at}, {refused.member}")
+
+
 if __name__ == "__main__":
     bit_0()
     first = (another_record, minus_200, shrinking, kept_pads, all_ones, there_and_back, behind_the_stop, three_bytes)
-    for part in (*first, halves, two_ints_of_one_double, a_third_symbol, the_valve_alone):
+    for part in (*first, halves, two_ints_of_one_double, a_third_symbol, the_valve_alone, which_leaf_stops):
         print()
         part()
