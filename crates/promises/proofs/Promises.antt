@@ -66,7 +66,7 @@ not-early (inl e) (inr n) = omega (arith, e, n)
 not-early (inr e) (inl n) = omega (arith, e, n .1)
 not-early (inr e) (inr n) = omega (arith, e, n)
 
-passed-not-before : (r : Run) (S D : Datatype) → checks r ≡ passed S D → ¬ (RefusedBeforeStop r)
+pub passed-not-before : (r : Run) (S D : Datatype) → checks r ≡ passed S D → ¬ (RefusedBeforeStop r)
 passed-not-before r S D c n =
     not-early (handled-number S D (r .handling) (r .count) (readings S D (r .source))) (subst Early (ap numberOf (answer-is r S D c)) n)
 
@@ -78,7 +78,7 @@ passed-types r S D t U W c =
     let j : W ≡ D = cc (t .destination, p .destination) in
     subst₂ (λ (X Y : Datatype). checks r ≡ passed X Y) i j c
 
-passes : (r : Run) (S D : Datatype) → Types r S D → ¬ (RefusedBeforeStop r) → checks r ≡ passed S D
+pub passes : (r : Run) (S D : Datatype) → Types r S D → ¬ (RefusedBeforeStop r) → checks r ≡ passed S D
 passes r S D t n =
     ⊎-elim (λ (x : (a : Answer) × (checks r ≡ refused a)). absurd (n (refused-before r (x .0) (x .1))))
     (λ (x : (U : Datatype) × (W : Datatype) × (checks r ≡ passed U W)). passed-types r S D t (x .0) (x .1) (x .2)) (refused-or-passed (checks r))

@@ -1,0 +1,14 @@
+pub mod Composition
+pub mod OneLeaf
+pub mod Alike
+pub mod TwoSteps
+pub mod Words
+pub mod Acceptance
+pub mod NoReals
+pub mod Names
+pub mod Computed
+pub mod OtherNames
+pub mod WithReals
+pub mod WithExceptions
+pub mod Witness
+pub mod WordsInC
