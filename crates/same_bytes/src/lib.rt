@@ -6,6 +6,9 @@ ghost use lib.ListN.{length};
 ghost use Rattle.table.specs.Table.{typeWord, classWord};
 ghost use Rattle.plans.specs.PlanWords.{oneReal, toByte, fromByte};
 ghost use Rattle.same_bytes.specs.Same.{Fills, Stays, StaysAt, Adjoin};
+use bits::ByteAt;
+use bits::bits_of;
+use layout::size_allowed;
 use plan_words::entry;
 use table::CLASS;
 use table::ENUM;
@@ -27,10 +30,14 @@ pub struct Run {
 fn filled_bytes(half: &[u32], type_number: usize) -> usize
     ensures { λ r. ⌜ (1 ≤ r → Fills (now (half .entry)) «type_number» r) × (r < 4294967296) ⌝ }
 {
-    let size = type_word(half, type_number, SIZE);
-    if type_word(half, type_number, PRECISION) == 8 * size {
+    let size = ByteAt(type_word(half, type_number, SIZE));
+    if !size_allowed(size) {
+        return 0;
+    }
+    let whole = bits_of(size);
+    if type_word(half, type_number, PRECISION) == whole.0 as usize {
         if type_word(half, type_number, OFFSET) == 0 {
-            return size;
+            return size.0;
         }
     }
     0

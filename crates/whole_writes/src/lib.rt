@@ -4,6 +4,9 @@ ghost use mathlib.Core.Bool.{true};
 ghost use Prim.Native.Nat.{_*_, _≤_, _<_};
 ghost use lib.ListN.{length};
 ghost use Rattle.whole_writes.specs.Writes.{Anew, WritesEach};
+use bits::ByteAt;
+use bits::bits_of;
+use layout::size_allowed;
 use plan_words::entry;
 use table::LSB;
 use table::MSB;
@@ -29,14 +32,18 @@ fn keeps_none(pad: usize, from: usize, end: usize) -> bool
 fn bytes_anew(half: &[u32], type_number: usize) -> usize
     ensures { λ r. ⌜ (1 ≤ r → Anew (now (half .entry)) «type_number» r) × (r < 4294967296) ⌝ }
 {
-    let size = type_word(half, type_number, SIZE);
+    let size = ByteAt(type_word(half, type_number, SIZE));
+    if !size_allowed(size) {
+        return 0;
+    }
+    let whole = bits_of(size);
     let offset = type_word(half, type_number, OFFSET);
     let precision = type_word(half, type_number, PRECISION);
     let below = type_word(half, type_number, LSB);
     let above = type_word(half, type_number, MSB);
     if keeps_none(below, 0, offset) {
-        if keeps_none(above, offset + precision, 8 * size) {
-            return size;
+        if keeps_none(above, offset + precision, whole.0 as usize) {
+            return size.0;
         }
     }
     0
