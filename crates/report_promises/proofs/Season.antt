@@ -20,7 +20,7 @@ use Rattle.reports.specs.Call.{Call, width, reportOf, checks, answer, memoryAft
 use Rattle.reports.specs.Parts.{IsDone, written, Types, sourceRecords}
 use Rattle.reports.proofs.Pieces.{in-front, front-length, in-first, in-second}
 use Rattle.reports.proofs.Checks.{passed-tells, done-passes, done-passed, answer-is, memory-is, written-is, source-size, source-room, written-held}
-use Rattle.report_promises.specs.Season.{Follow, leftBy, Each, Source, Reader, recordsOf, countOf, lastOf, Log, parts, partsOf, SameLog, SameLogs, Season, logs, calls, SameSeason, SeasonAlike}
+use Rattle.report_promises.specs.Season.{Follow, leftBy, Each, Source, Reader, recordsOf, countOf, lastOf, Log, parts, partsOf, OneLogCutTwoWays, SameLogs, Season, logs, calls, SameSeason, SeasonAlike}
 
 -- ---- rows of calls, one behind the other
 
@@ -110,7 +110,7 @@ module _ (S D : Datatype) where
         ∙ ap (λ (x : List ℤ). left (countOf (parts g)) (recordsOf (parts g)) x) e
 
 -- one log, cut in two ways, from one memory
-log-alike : (ds : List ℕ) (g h : Log) (m : List ℤ) → SameLog g h → Reader ds (parts g) → Reader ds (parts h) → Follow m (parts g) → Follow m (parts h)
+log-alike : (ds : List ℕ) (g h : Log) (m : List ℤ) → OneLogCutTwoWays g h → Reader ds (parts g) → Reader ds (parts h) → Follow m (parts g) → Follow m (parts h)
     → leftBy m (parts g) ≡ leftBy m (parts h)
 log-alike ds g h m same dg dh fg fh =
     let x = done-passes (g .first) (fg .1) in

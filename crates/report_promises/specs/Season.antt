@@ -63,7 +63,7 @@ partsOf [] = []
 partsOf (g ∷ gs) = parts g ++ partsOf gs
 
 -- one log, cut in two ways: one source sheet, and the same records
-pub record SameLog (g h : Log) : Type 0 where
+pub record OneLogCutTwoWays (g h : Log) : Type 0 where
   pub sheet : List ℕ
   pub source : Source sheet (parts g)
   pub source′ : Source sheet (parts h)
@@ -75,7 +75,7 @@ abbrev pub SameLogs : List Log → List Log → Type 0
 SameLogs [] [] = Unit {0}
 SameLogs [] (h ∷ hs) = ⊥
 SameLogs (g ∷ gs) [] = ⊥
-SameLogs (g ∷ gs) (h ∷ hs) = SameLog g h × SameLogs gs hs
+SameLogs (g ∷ gs) (h ∷ hs) = OneLogCutTwoWays g h × SameLogs gs hs
 
 -- ---- seasons
 

@@ -29,8 +29,8 @@ pub record SameReport (c e : Call) : Type 0 where
   pub memory : memoryAfter c ≡ memoryAfter e
   pub text : written c ≡ written e
 
--- the same converted bytes, and the same cleared tail
-pub record SameLog (S D : Datatype) (c e : Call) : Type 0 where
+-- the log that is left is the same: the same converted bytes, and the same cleared tail
+pub record SameLogLeft (S D : Datatype) (c e : Call) : Type 0 where
   pub converted : convertedBytes D (c .count) (logAfter c) ≡ convertedBytes D (e .count) (logAfter e)
   pub cleared : clearedTail inPlace S D (c .count) (logAfter c) ≡ clearedTail inPlace S D (e .count) (logAfter e)
 
@@ -57,6 +57,6 @@ pub record TurnsOn (c e : Call) : Type 0 where
   -- "agree on every matched number": nothing else shows in the report. Pad bits, gaps, unmatched members, all of the background and what the table held are free
   pub same : (S D : Datatype) → Types c S D → Agree S D (c .count) (c .log) (e .log) → SameReport c e
   -- and over the same background, nothing else shows in the log that is left
-  pub same-log : (S D : Datatype) → Types c S D → Agree S D (c .count) (c .log) (e .log) → backgroundRecords c ≡ backgroundRecords e → IsDone c → SameLog S D c e
+  pub same-log : (S D : Datatype) → Types c S D → Agree S D (c .count) (c .log) (e .log) → backgroundRecords c ≡ backgroundRecords e → IsDone c → SameLogLeft S D c e
   -- where a check before the last one refuses either call, logs and backgrounds may differ freely, the answers are equal, and nothing but the table changes
   pub refused : RefusedBeforeOutput c ⊎ RefusedBeforeOutput e → (answer c ≡ answer e) × Unchanged c × Unchanged e
