@@ -1,4 +1,4 @@
--- The teacher's question at one leaf: which bits of a record can its number turn on? Exactly the significant ones, offset to offset + precision − 1 of
+-- Which bits of a record can the number of one leaf turn on? Exactly the significant ones, offset to offset + precision − 1 of
 -- the container. Equal there, equal numbers (`same-bits`); equal numbers, equal there (`same-number`). Assumes nothing.
 use mathlib.Core.Path.{_≡_, sym, ap, ap₂, _∙_}
 use mathlib.Core.List.{List}

@@ -1,5 +1,5 @@
--- The teacher's question for a real: each of the 64 bits of a matched source leaf that is one is significant. Assumes nothing.
-use mathlib.Core.Path.{_≡_, refl, sym, ap, _∙_, subst}
+-- Which bits of a real are significant: of a matched source leaf that is one, each of the 64. Assumes nothing.
+use mathlib.Core.Path.{_≡_, refl, subst}
 use Prim.Native.Nat.{ℕ, _+_, _≤_, _<_}
 use native.Mathlib.Omega.{arith}
 use Rattle.layout.specs.declared.Layout.{Layout}

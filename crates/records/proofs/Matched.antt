@@ -1,5 +1,4 @@
--- The teacher's question over n records: the matched numbers turn on the significant bits of the matched source leaves, on each of them and on no other.
--- Assumes nothing.
+-- Which bits of n source records the matched numbers turn on: the significant bits of the matched source leaves, each of them and no other. Assumes nothing.
 use mathlib.Core.List.{List}
 use Prim.Native.Nat.{ℕ}
 use Rattle.number.proofs.Bits.{same-bits, same-number}

@@ -1,4 +1,4 @@
--- Document 01, "Words of demand 3": the matched numbers of n source records, and the bits that they stand in.
+-- Document 01, "Words of demand 3", which is what the result of a call turns on: the matched numbers of n source records, and the bits that they stand in.
 use mathlib.Core.Path.{_≡_}
 use mathlib.Core.List.{List}
 use Prim.Native.Nat.{ℕ, _+_, _≤_, _<_}
@@ -33,7 +33,7 @@ Agree S D n p q = (m : MatchedLeaf S D n) → matchedNumber m p ≡ matchedNumbe
 abbrev pub Differ : Datatype → Datatype → ℕ → List ℕ → List ℕ → Type 0
 Differ S D n p q = (m : MatchedLeaf S D n) × ¬ (matchedNumber m p ≡ matchedNumber m q)
 
--- ---- The teacher's question: which bits of the source records can a call turn on? "The number occupies bits offset to offset + precision − 1":
+-- ---- Which bits of the source records can a call turn on? "The number occupies bits offset to offset + precision − 1":
 -- those bits of each matched source leaf, and no other.
 pub record SignificantBit (S D : Datatype) (n : ℕ) : Type 0 where
   pub leaf : MatchedLeaf S D n

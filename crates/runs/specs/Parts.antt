@@ -1,4 +1,5 @@
--- Document 01, "Words of demand 3": the parts of the buffer that a call writes. `buffer` is that buffer before or after the call.
+-- Document 01, "Words of demand 3", which is what the result of a call turns on: the parts of the buffer that a call writes. `buffer`
+-- is that buffer before or after the call.
 use mathlib.Core.List.{List, []}
 use Prim.Native.Nat.{ℕ, _*_, _-_, max}
 use lib.ListN.{take, drop, replicate}
