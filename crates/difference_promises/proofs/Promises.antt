@@ -1,7 +1,7 @@
 -- A log and what a run made of it without an exception have no difference, and differences turn on matched numbers alone. Assumes nothing.
-use mathlib.Core.Path.{_≡_, refl, sym, ap, ap₂, _∙_}
+use mathlib.Core.Path.{_≡_, refl, sym, ap₂, _∙_}
 use mathlib.Core.List.{List, [], _∷_, _++_}
-use mathlib.Core.Bool.{Bool, cond}
+use mathlib.Core.Bool.{cond}
 use Prim.Native.Nat.{ℕ, zero, suc, _+_, _≤_, _<_}
 use native.Mathlib.Omega.{arith}
 use lib.IntN.{ℤ}
@@ -13,13 +13,12 @@ use Rattle.datatype.proofs.Ways.{way-starts, match-way}
 use Rattle.datatype.proofs.Matches.{match-formed}
 use Rattle.sheet.proofs.ReadWellFormed.{read-well-formed}
 use Rattle.records.specs.Leaf.{numberIn}
-use Rattle.records.specs.Record.{kindAt}
 use Rattle.records.specs.Records.{recordAt, readings, exceptions}
 use Rattle.records.specs.Matched.{MatchedLeaf, matchedNumber}
 use Rattle.records.proofs.OneRecord.{none-raised}
 use Rattle.records.proofs.ManyRecords.{none-in}
 use Rattle.runs.specs.Run.{Run, after}
-use Rattle.promises.specs.Promise.{answerFields, DoneWithoutException, Types, becomes}
+use Rattle.promises.specs.Runs.{DoneWithoutException, Types, becomes}
 use Rattle.promises.proofs.Stops.{kind-of}
 use Rattle.promises.proofs.Promises.{arrival, kept}
 use Rattle.differences.specs.Differences.{Difference, ofLeaf, atByte, inRecord, inRecords, differences}

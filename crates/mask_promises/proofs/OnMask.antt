@@ -16,14 +16,14 @@ use Rattle.datatype.specs.WellFormed.{WellFormedLeaf, WellFormed}
 use Rattle.datatype.proofs.Tests.{and-true}
 use Rattle.datatype.proofs.Matches.{in-range, match-formed}
 use Rattle.sheet.specs.Sheet.{sheetOf}
-use Rattle.records.specs.Leaf.{converted}
 use Rattle.records.specs.Records.{recordAt}
 use Rattle.records.specs.Matched.{SignificantBit, bitIn, SameSignificantBits}
 use Rattle.runs.specs.Run.{Form, Run, hasRoom, checks}
 use Rattle.runs.specs.Run.Form.{copying, inPlace}
 use Rattle.runs.specs.Run.Checked.{refused, passed}
 use Rattle.runs.proofs.Checks.{refused-or-passed, passed-tells, room-in-place}
-use Rattle.promises.specs.Promise.{RefusedBeforeStop, Types, SameCall, SameBackground, SameEffect}
+use Rattle.promises.specs.Runs.{RefusedBeforeStop, Types}
+use Rattle.promises.specs.Demand3.{SameCall, SameBackground, SameEffect}
 use Rattle.promises.proofs.Promises.{refused-before, not-early, passed-types, demand-3, on-significant-bits}
 use Rattle.masks.specs.Says.{byteOf, Significant}
 use Rattle.reaches.specs.Call.{Call, maskAfter}

@@ -27,7 +27,7 @@ use Rattle.runs.specs.Parts.{convertedBytes}
 use Rattle.runs.proofs.Checks.{tells-passed}
 use Rattle.runs.proofs.Exceptions.{clamped-handled}
 use Rattle.runs.proofs.Buffers.{answer-is}
-use Rattle.promises.specs.Promise.{SameCall}
+use Rattle.promises.specs.Demand3.{SameCall}
 use Rattle.promises.proofs.Promises.{converted-is}
 use Rattle.masks.specs.Says.{Significant}
 use Rattle.reaches.specs.Call.{Call}

@@ -33,7 +33,8 @@ use Rattle.runs.specs.Run.{Run, checks, answer, handled}
 use Rattle.runs.specs.Run.Checked.{passed}
 use Rattle.runs.proofs.Exceptions.{clamped-handled}
 use Rattle.runs.proofs.Buffers.{answer-is}
-use Rattle.promises.specs.Promise.{IsDone, SameCall, SameBackground, SameConverted, SameEffect}
+use Rattle.promises.specs.Runs.{IsDone, SameConverted}
+use Rattle.promises.specs.Demand3.{SameCall, SameBackground, SameEffect}
 use Rattle.promises.proofs.Promises.{same-answer, room, converted-is, other, other-room, other-is, same-tail}
 use Rattle.reaches.specs.Call.{Call}
 use Rattle.mask_promises.specs.Bits.{NoValue}

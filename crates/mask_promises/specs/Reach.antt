@@ -5,7 +5,8 @@ use Prim.Native.Nat.{ℕ}
 use Rattle.datatype.specs.Datatype.{Datatype, size}
 use Rattle.datatype.specs.Handling.{clamp}
 use Rattle.runs.specs.Run.{Form, Run}
-use Rattle.promises.specs.Promise.{answerFields, IsDone, DoneWithoutException, SameCall, SameBackground, SameConverted, SameEffect}
+use Rattle.promises.specs.Runs.{answerFields, IsDone, DoneWithoutException, SameConverted}
+use Rattle.promises.specs.Demand3.{SameCall, SameBackground, SameEffect}
 use Rattle.masks.specs.Says.{Significant}
 use Rattle.reaches.specs.Call.{Call, maskAfter}
 use Rattle.mask_promises.specs.Bits.{AreBytes, MaskBit, bitAt, AgreeOnMask, DifferOnlyIn, NoValue}

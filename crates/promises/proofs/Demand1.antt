@@ -3,11 +3,9 @@ use mathlib.Core.Path.{_≡_, refl, sym, ap, _∙_, subst}
 use mathlib.Core.Logic.{_⊎_, inl, inr, ⊎-elim}
 use mathlib.Core.Bool.{cond, false≢true}
 use mathlib.Core.List.{List, [], _∷_}
-use mathlib.Core.Option.{Option, none, some}
 use Prim.Native.Nat.{ℕ, zero, suc, _≤_, _<_}
 use native.Mathlib.Omega.{arith}
 use lib.Dec.{leb, eqb}
-use lib.IntN.{ℤ}
 use lib.ListN.{length}
 use borrow.Author.Tests.{leb-true, leb-false}
 use Rattle.answer.specs.declared.Answer.{Answer}
@@ -15,12 +13,9 @@ use Rattle.answer.specs.declared.Answer.the-variants.{Done, Handling, Table, So
 use Rattle.answer.specs.declared.Given as answer
 use Rattle.answer.specs.declared.Values.{Values}
 use Rattle.answer.specs.Answer.{numberOf, valuesOf}
-use Rattle.datatype.specs.Datatype.{Leaf, Datatype, size}
-use Rattle.datatype.specs.Symbols.{onSome}
+use Rattle.datatype.specs.Datatype.{Datatype, size}
 use Rattle.datatype.specs.Paths.{hasPath}
 use Rattle.datatype.specs.SymbolSets.{keepsSymbols}
-use Rattle.datatype.specs.Matches.{Match, matchAt}
-use Rattle.datatype.specs.Matches.Match.{unmatched, matched}
 use Rattle.datatype.specs.WellFormed.{WellFormed}
 use Rattle.datatype.proofs.Ways.{way-starts, match-way}
 use Rattle.datatype.proofs.HasPath.{has-path}
@@ -29,12 +24,10 @@ use Rattle.sheet.specs.Sheet.{sheetOf}
 use Rattle.sheet.specs.Sheet.Sheet.{ofType}
 use Rattle.sheet.proofs.FirstFault.{first-fault}
 use Rattle.sheet.proofs.ReadWellFormed.{read-well-formed}
-use Rattle.records.specs.Record.{kindAt, givenAt, firstRaising}
-use Rattle.records.specs.Records.{Readings, readings, recordAt, exceptions}
+use Rattle.records.specs.Record.{kindAt, givenAt}
+use Rattle.records.specs.Records.{Readings, readings}
 use Rattle.records.specs.Matched.{MatchedLeaf}
-use Rattle.records.proofs.OneRecord.{none-raised, reading-at}
-use Rattle.records.proofs.ManyRecords.{none-in}
-use Rattle.runs.specs.Run.{Run, hasRoom, typeChecks, checksOf, onChecked, stopFrom, handled, answerFor, answer}
+use Rattle.runs.specs.Run.{Run, hasRoom, typeChecks, checksOf, onChecked, handled, answerFor, answer}
 use Rattle.runs.specs.FirstException.{NoneStops, FirstException}
 use Rattle.runs.specs.Refusals.{First, onlyCount, onlyPlace}
 use Rattle.runs.specs.Refusals.First.{here}
@@ -42,7 +35,7 @@ use Rattle.runs.proofs.Checks.{done-is, stop-is}
 use Rattle.runs.proofs.Exceptions.{handled-count, handled-clamped, handled-first, handled-number}
 use Rattle.runs.proofs.Refusals.{not-faulty, of-types, by-types, same-types, one-line, too-short, not-too-short, RefusalTable, None, Right, passed-by, by-test, by-sheet, right-row, right-first, right-done, right-none}
 use Rattle.runs.proofs.Refusals.Right.{none-given, first-given}
-use Rattle.promises.specs.Promise.{answerNumber, answerFields, becomes}
+use Rattle.promises.specs.Runs.{answerNumber, answerFields}
 use Rattle.promises.specs.Demand1.{Exception, Row, number, Given, order, Fields, DoneFields, Demand1}
 use Rattle.promises.proofs.Stops.{kind-of, first-leaf, first-obeys, first-raises}
 use Rattle.promises.specs.Demand1.Row.{HANDLING, TABLE, SOURCE, DESTINATION, PATH, SYMBOLS, COUNT, ROOM, STOP}

@@ -33,7 +33,8 @@ use Rattle.records.specs.Record as one
 use Rattle.records.specs.Records as many
 use Rattle.runs.specs.Run as runs
 use Rattle.runs.specs.Run.{answer, after}
-use Rattle.promises.specs.Promise.{DoneWithoutException, Types, WayBack, AlwaysReturned}
+use Rattle.promises.specs.Runs.{DoneWithoutException, Types}
+use Rattle.promises.specs.WayBack.{WayBack, AlwaysReturned}
 use Rattle.promises.proofs.Exercises.{words, there, back}
 
 -- ---- the types of the two sheets

@@ -1,4 +1,5 @@
--- Demands 2 and 3 about whole calls, over all records and in every form. Assumes nothing: the types of sheets are well formed (crate sheet).
+-- Demand 2, what a call leaves, and demand 3, what its result turns on, over all records and in every form. Assumes nothing: the types of sheets are well formed
+-- (crate sheet).
 use mathlib.Core.Path.{_≡_, refl, sym, ap, ap₂, _∙_, subst, subst₂}
 use mathlib.Core.Logic.{_⊎_, inl, inr, ⊎-elim}
 use mathlib.Core.List.{List}
@@ -32,7 +33,7 @@ use Rattle.records.proofs.OneLeaf.{InRange, read-in-range, arrives}
 use Rattle.records.proofs.OneRecord.{converted-place, read-converted, reading-at, converted-keeps}
 use Rattle.records.proofs.ManyRecords.{record-length, in-none, converted-in, agree-readings, same-converted, same-bytes, returns-quiet, returns-same}
 use Rattle.records.proofs.Matched.{bits-agree, agree-bits}
-use Rattle.runs.specs.Run.{Form, Run, handled, result, checksOf, checks, answerFor, answer, after, cleared}
+use Rattle.runs.specs.Run.{Form, Run, handled, result, checksOf, checks, answer, after, cleared}
 use Rattle.runs.specs.Run.Form.{inPlace}
 use Rattle.runs.specs.Run.Checked.{refused, passed}
 use Rattle.runs.specs.Parts.{convertedBytes, clearedTail, zeros, laterBytes}
@@ -42,7 +43,11 @@ use Rattle.runs.proofs.Buffers.{answer-refused, after-refused, answer-is, after
 use Rattle.runs.proofs.Table.{cleared-zero, cleared-beyond, cleared-length, table-cases}
 use Rattle.promises.proofs.Stops.{kind-of, first-leaf, first-record, first-byte, first-given}
 use Rattle.promises.proofs.WithoutSymbol.{kind-3-of}
-use Rattle.promises.specs.Promise.{answerNumber, answerFields, SameAnswer, IsDone, DoneWithoutException, RefusedBeforeStop, Types, before, SameCall, SameBackground, SameConverted, SameCleared, SameEffect, Demand3, OnSignificantBits, WayBack, Returned, OnlyWhereEqual, fromCopy, AsFromCopy, becomes, KindThree, recordOf, arrivedNumber, Arrived, Stopped, Uncovered, Kept, table, TableKept}
+use Rattle.promises.specs.Runs.{answerNumber, answerFields, SameAnswer, IsDone, DoneWithoutException, RefusedBeforeStop, Types, before, SameConverted, becomes}
+use Rattle.promises.specs.Demand2.{fromCopy, AsFromCopy, KindThree, recordOf, arrivedNumber, Arrived, Stopped, Uncovered, Kept}
+use Rattle.promises.specs.WayBack.{WayBack, Returned, OnlyWhereEqual}
+use Rattle.promises.specs.WorkingTable.{table, TableKept}
+use Rattle.promises.specs.Demand3.{SameCall, SameBackground, SameCleared, SameEffect, Demand3, OnSignificantBits}
 
 -- ---- answers
 
@@ -422,7 +427,7 @@ demand-3 r q s =
       refused = refused-alike r q s;
     }
 
--- The teacher's corollary: the effect turns on the significant bits of the matched source leaves, on each of them and on no other bit of the source.
+-- Demand 3 by bits: the effect turns on the significant bits of the matched source leaves, on each of them and on no other bit of the source.
 pub on-significant-bits : (r q : Run) → SameCall r q → (S D : Datatype) → Types r S D → OnSignificantBits S D r q
 on-significant-bits r q s S D t =
     record {

@@ -1,5 +1,5 @@
 -- Document 02, 2026-12: "source sheets may carry it without effect". Assumes nothing.
-use mathlib.Core.Path.{_≡_, sym, ap, ap₂, _∙_}
+use mathlib.Core.Path.{_≡_, sym, ap₂, _∙_}
 use mathlib.Core.List.{List}
 use Prim.Native.Nat.{ℕ}
 use lib.Dec.{leb}
@@ -13,7 +13,7 @@ use Rattle.sheet.specs.Sheet.Sheet.{ofType}
 use Rattle.records.specs.Records.{readings}
 use Rattle.runs.specs.Run.{Form, Run, require, withSheet, onChecked, typeChecks, handled, answerFor, answer, target, result, ifDone, after}
 use Rattle.runs.proofs.Words.{source-handled, source-result, source-checked}
-use Rattle.promises.specs.Promise.{OtherSourceWords, WithoutEffect}
+use Rattle.promises.specs.SourceWords.{OtherSourceWords, WithoutEffect}
 
 -- what a run with a source of type S says: f of the two types behind the checks, g of a refusal
 said : {A : Type 0} → (Datatype → Datatype → A) → (Answer → A) → Form → ℕ → List ℕ → ℕ → ℕ → ℕ → ℕ → Datatype → A

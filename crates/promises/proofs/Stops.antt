@@ -1,5 +1,5 @@
 -- The leaf that STOP names is matched, and its number is the one that was given. Assumes nothing.
-use mathlib.Core.Path.{_≡_, refl, sym, ap, _∙_}
+use mathlib.Core.Path.{_≡_, refl, sym, _∙_}
 use mathlib.Core.List.{List}
 use mathlib.Core.Option.{Option}
 use Prim.Native.Nat.{ℕ, _≤_}
@@ -17,7 +17,7 @@ use Rattle.records.specs.Matched.{MatchedLeaf, matchedNumber}
 use Rattle.records.proofs.OneLeaf.{given-matched}
 use Rattle.records.proofs.OneRecord.{reading-at}
 use Rattle.runs.specs.FirstException.{FirstException}
-use Rattle.promises.specs.Promise.{becomes}
+use Rattle.promises.specs.Runs.{becomes}
 
 -- a leaf that raises one is matched
 raising-matched : (S D : Datatype) (f : ℕ → Option ℤ) (b : ℕ) → 1 ≤ kindAt S D f b

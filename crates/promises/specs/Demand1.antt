@@ -17,7 +17,7 @@ use Rattle.records.specs.Matched.{MatchedLeaf}
 use Rattle.runs.specs.Run.{Run}
 use Rattle.runs.specs.FirstException.{FirstException}
 use Rattle.runs.specs.Refusals.{OfSheets, TooShort, First, noField, onlyCount, onlyLine, onlyPlace}
-use Rattle.promises.specs.Promise.{answerNumber, answerFields, becomes}
+use Rattle.promises.specs.Runs.{answerNumber, answerFields, becomes}
 
 -- ---- the words of the rows
 

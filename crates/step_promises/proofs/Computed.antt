@@ -27,7 +27,7 @@ use Rattle.records.specs.Record as one
 use Rattle.records.specs.Records as many
 use Rattle.runs.specs.Run as runs
 use Rattle.runs.specs.Run.{Run, answer}
-use Rattle.promises.specs.Promise.{answerNumber, DoneWithoutException, Types}
+use Rattle.promises.specs.Runs.{answerNumber, DoneWithoutException, Types}
 use Rattle.promises.proofs.Promises.{not-early}
 use Rattle.step_promises.specs.TwoSteps.{AllAccepted}
 

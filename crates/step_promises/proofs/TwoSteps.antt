@@ -37,7 +37,7 @@ use Rattle.runs.specs.Run.Form.{copying, inPlace}
 use Rattle.runs.specs.Run.Checked.{passed}
 use Rattle.runs.proofs.Checks.{done-is, passed-tells, room-in-place}
 use Rattle.runs.proofs.Buffers.{answer-is}
-use Rattle.promises.specs.Promise.{IsDone, DoneWithoutException, SameConverted, becomes}
+use Rattle.promises.specs.Runs.{IsDone, DoneWithoutException, SameConverted, becomes}
 use Rattle.promises.proofs.Stops.{kind-of}
 use Rattle.promises.proofs.Promises.{same-answer, passes, room, converted-is, arrival, kept}
 use Rattle.step_promises.specs.TwoSteps.{AllAccepted, SameRecords, SameBackgroundAndHandling, SameNames, NoReals, TwoStepsOrOne, withoutGiven, AlsoWithReals}

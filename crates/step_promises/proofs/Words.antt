@@ -25,7 +25,8 @@ use Rattle.runs.specs.Parts.{convertedBytes}
 use Rattle.runs.proofs.Checks.{refused-or-passed, Passed, passed-tells, tells-passed}
 use Rattle.runs.proofs.Exceptions.{quiet-handled}
 use Rattle.runs.proofs.Buffers.{answer-is, after-is}
-use Rattle.promises.specs.Promise.{DoneWithoutException, Types, WithoutEffect}
+use Rattle.promises.specs.Runs.{DoneWithoutException, Types}
+use Rattle.promises.specs.SourceWords.{WithoutEffect}
 use Rattle.promises.proofs.Promises.{refused-before, not-early, passes, kept}
 use Rattle.promises.proofs.SourceWords.{source-words}
 use Rattle.step_promises.specs.TwoSteps.{SameOutcome, WhateverWords, OtherDestinationWords, WhateverFirst}

@@ -26,7 +26,9 @@ use Rattle.sheet.specs.Sheet.{sheetOf}
 use Rattle.sheet.specs.Sheet.Sheet.{ofType}
 use Rattle.runs.specs.Run.{Run, hasRoom, after}
 use Rattle.runs.specs.Parts.{convertedBytes}
-use Rattle.promises.specs.Promise.{answerNumber, answerFields, SameAnswer, IsDone, DoneWithoutException, RefusedBeforeStop, Types, SameBackground, SameConverted, OtherSourceWords, WithoutEffect}
+use Rattle.promises.specs.Runs.{answerNumber, answerFields, SameAnswer, IsDone, DoneWithoutException, RefusedBeforeStop, Types, SameConverted}
+use Rattle.promises.specs.Demand3.{SameBackground}
+use Rattle.promises.specs.SourceWords.{OtherSourceWords, WithoutEffect}
 
 -- ---- the three runs
 
