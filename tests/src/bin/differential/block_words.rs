@@ -39,22 +39,23 @@ fn stop_event(place: &str) -> String {
 /// Leaves that clamp raise, and in some runs one that stops.
 pub fn case(random: &mut Random, tally: &mut Tally) -> Result<(), String> {
     let (from, to) = paired(random, 5, block_sheets::leaves);
-    let sheets = (words::text(random, &from), words::often(random, &to));
+    let share = words::some(random);
+    let sheets = (words::text(random, &from), words::with(random, &to, share));
     let (form, handling) = (*random.pick(&FORMS), random.below(2) as u32);
     let call_stops = form.is_plain() || handling == STOP;
     let made = |random: &mut Random, from: &Datatype, to: &Datatype, matches: &[Match]| {
-        let count = match random.percent(80) {
+        let count = match random.percent(95) {
             true => *random.pick(&COUNTS),
             false => random.between(300, 600),
         };
         let mut bytes = fitting_records(random, from.size(), count, matches);
         let stops = |pair: &&Match| words::stop(to, &pair.to, call_stops);
         let (stopping, clamping): (Vec<&Match>, Vec<&Match>) = matches.iter().partition(stops);
-        for _ in 0..random.below(5) {
+        for _ in 0..random.between(1, 4) {
             let record = random.below(count) * from.size();
             raise(random, &clamping, &mut bytes[record as usize..]);
         }
-        if random.percent(60) {
+        if random.percent(50) {
             let block = Unit::record(from, to).searched();
             let record = stop_at(random, block, count) * from.size();
             raise(random, &stopping, &mut bytes[record as usize..]);

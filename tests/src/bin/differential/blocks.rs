@@ -326,11 +326,14 @@ fn log(
 pub fn stop_at(random: &mut Random, block: u64, units: u64) -> u64 {
     let whole = units / block;
     let chosen = random.below(whole + 1) * block;
+    let rest = units % block;
     let at = match random.below(8) {
+        // Too few for a block.
+        _ if (1..FEWEST).contains(&rest) && random.percent(30) => units - 1 - random.below(rest),
         0 | 1 => random.between(whole.min(1), whole) * block,
         2 | 3 => chosen + block - 1,
         4 => chosen + random.below(block),
-        5 | 6 => whole * block + random.below(units % block + 1),
+        5 | 6 => whole * block + random.below(rest + 1),
         _ => units - 1,
     };
     at.min(units - 1)

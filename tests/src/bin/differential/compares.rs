@@ -49,6 +49,13 @@ pub fn long_case(random: &mut Random, tally: &mut Tally) -> Result<(), String> {
         run.first = first(random, from, run.count, matches);
         let share = *random.pick(&[0, 0, 1, 100]);
         run.second = second(random, (from, to), &run.first, matches, share);
+        if random.percent(30) {
+            // The last record once more, with other numbers.
+            let last = &run.first[(65_535 * from.size()) as usize..];
+            let other = second(random, (from, to), last, matches, 100);
+            run.second.truncate((65_535 * to.size()) as usize);
+            run.second.extend(other);
+        }
         run.list = room(random, 0, &run, from, to);
     });
     finish(random, tally, &run)

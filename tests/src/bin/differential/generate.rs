@@ -224,10 +224,13 @@ pub fn unsigned(layout: Atomic) -> Line {
 /// members of their own, nested and in arrays, some of them unmatched.
 pub fn symbols(random: &mut Random) -> (Model, Model) {
     let (mut from, mut to) = paired(random, 7, |random, from, to| match random.below(8) {
-        0 => (
-            from.push(Line::Int(atomic(random, 2))),
-            to.push(Line::Int(atomic(random, 2))),
-        ),
+        0 => {
+            let most = *random.pick(&[2, 2, 2, 8]);
+            (
+                from.push(Line::Int(atomic(random, 2))),
+                to.push(Line::Int(atomic(random, most))),
+            )
+        }
         _ => {
             let pair = enums(random, from, to);
             nested(random, pair, from, to)
@@ -380,7 +383,7 @@ pub fn paired(
 }
 
 /// Any valid atomic layout, mostly with more bits than a double holds.
-fn wide(random: &mut Random) -> Atomic {
+pub fn wide(random: &mut Random) -> Atomic {
     let mut layout = atomic(random, 8);
     if random.percent(60) {
         let precision = *random.pick(&[64, 64, 63, 56, 55, 54, 53]);

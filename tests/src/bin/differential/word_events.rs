@@ -281,8 +281,6 @@ fn note_sheets(saw: &mut impl FnMut(bool, &str), sheets: [&[u8]; 2]) {
         let rows = lines("member", sheet) + lines("value", sheet);
         let (clamp, stop) = words(sheet);
         saw(rows == 256 && clamp + stop > 0, "words: 256 rows");
-        let is_long = sheet.len() > 16_000;
-        saw(is_long && clamp + stop > 0, "words: more than 16,000 bytes");
     }
 }
 
@@ -557,8 +555,13 @@ fn class(pair: &Match) -> &'static str {
 
 /// Notes a call that is done, over a sheet with words.
 pub fn note_call(tally: &mut Tally, call: &str, sheets: &[&[u8]], number: u64) {
-    if number == 0 && sheets.iter().any(|sheet| words::has(sheet)) {
-        tally.saw(&format!("words: {call} that is done"));
+    let worded = || sheets.iter().filter(|sheet| words::has(sheet));
+    if number != 0 || worded().next().is_none() {
+        return;
+    }
+    tally.saw(&format!("words: {call} that is done"));
+    if worded().any(|sheet| sheet.len() > 16_000) {
+        tally.saw("words: more than 16,000 bytes");
     }
 }
 
