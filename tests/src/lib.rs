@@ -34,4 +34,6 @@ mod seasons;
 #[cfg(test)]
 mod stops;
 #[cfg(test)]
+mod two_steps;
+#[cfg(test)]
 mod words;

@@ -103,7 +103,7 @@ fn enums(random: &mut Random, from: &mut Model, to: &mut Model, most: u64) -> (u
             break other;
         }
     };
-    let others = any(random, number::range(&other), needed);
+    let others = distinct(random, number::range(&other), needed);
     let mut others: Vec<(Name, i128)> = names.iter().cloned().zip(others).collect();
     random.shuffle(&mut others);
     let values = names.into_iter().zip(found).collect();
@@ -163,7 +163,7 @@ fn close(random: &mut Random, base: &Atomic, most: u64) -> BTreeSet<i128> {
     let start = random.number(low, last);
     let end = (start + CLOSE - 1).min(high);
     let wanted = symbols(random, most - 2);
-    let mut found = any(random, (start, end), wanted);
+    let mut found = distinct(random, (start, end), wanted);
     if random.percent(40) {
         found.extend([start, end]);
     }
@@ -178,12 +178,12 @@ fn far(random: &mut Random, base: &Atomic, most: u64) -> BTreeSet<i128> {
         let start = random.number(low, high - CLOSE);
         let ends = (start, start + CLOSE);
         let wanted = symbols(random, most - 2);
-        let mut found = any(random, ends, wanted);
+        let mut found = distinct(random, ends, wanted);
         found.extend([ends.0, ends.1]);
         return found;
     }
     let wanted = symbols(random, most);
-    any(random, (low, high), wanted)
+    distinct(random, (low, high), wanted)
 }
 
 fn symbols(random: &mut Random, most: u64) -> usize {
@@ -197,7 +197,7 @@ fn symbols(random: &mut Random, most: u64) -> usize {
 }
 
 /// So many numbers of a range, or all of it; some of them beside each other.
-fn any(random: &mut Random, (low, high): (i128, i128), wanted: usize) -> BTreeSet<i128> {
+pub fn distinct(random: &mut Random, (low, high): (i128, i128), wanted: usize) -> BTreeSet<i128> {
     let mut found = BTreeSet::new();
     let wanted = (high - low + 1).min(wanted as i128) as usize;
     let mut tries = 0;

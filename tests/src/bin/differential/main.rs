@@ -43,6 +43,9 @@ mod report_run;
 mod reports;
 mod run;
 mod sizes;
+mod step_events;
+mod step_sheets;
+mod steps;
 mod stop_events;
 mod stops;
 mod symbol_events;
@@ -140,7 +143,7 @@ fn run_cases(options: &Options) -> bool {
 type Case = fn(&mut Random, &mut Tally) -> Result<(), String>;
 
 /// The sorts of cases, each with its share of all.
-const SORTS: [(u64, &str, Case); 31] = [
+const SORTS: [(u64, &str, Case); 32] = [
     (1, "conversion of 65,536 records", convert::long_case),
     (29, "conversion at the limits", convert::limit_case),
     (320, "conversion", |random, tally| {
@@ -181,16 +184,17 @@ const SORTS: [(u64, &str, Case); 31] = [
     }),
     (30, "comparison's laws", compare_laws::case),
     (50, "symbols", symbols::case),
-    (70, "conversion in blocks", blocks::case),
+    (76, "conversion in blocks", blocks::case),
     (46, "enums in blocks", blocks::enum_case),
-    (24, "leaves that stay, in blocks", blocks::staying_case),
+    (30, "leaves that stay, in blocks", blocks::staying_case),
     (28, "equal parts in blocks", blocks::part_case),
     (14, "STOP in blocks", blocks::stop_case),
     (16, "report in blocks", blocks::report_case),
     (24, "many rows", crowded::case),
     (20, "plain forms and the report", plain::case),
-    (50, "words", worded::case),
+    (60, "words", worded::case),
     (24, "words in blocks", block_words::case),
+    (50, "two steps", steps::case),
 ];
 
 fn run_case(random: &mut Random, tally: &mut Tally) -> Result<(), String> {

@@ -9,6 +9,7 @@ use crate::plain;
 use crate::reaches;
 use crate::real_events;
 use crate::run::{FORMS, NAMING};
+use crate::step_events;
 use crate::stop_events;
 use crate::symbol_events;
 use crate::word_events;
@@ -154,6 +155,7 @@ impl Tally {
             &crowded::NEEDED,
             &plain::NEEDED,
             &word_laws::NEEDED,
+            &step_events::NEEDED,
         ];
         let all = lists.iter().flat_map(|list| list.iter());
         let mut needed: Vec<String> = all.map(|what| what.to_string()).collect();
