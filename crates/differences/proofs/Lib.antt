@@ -1,3 +1,4 @@
 pub mod Says
+pub mod IsSame
 pub mod Converted
 pub mod Alike

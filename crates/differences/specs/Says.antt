@@ -10,6 +10,7 @@ use Rattle.records.specs.Leaf.{numberIn}
 use Rattle.records.specs.Records.{recordAt}
 use Rattle.records.specs.Matched.{MatchedLeaf, matchedNumber}
 use Rattle.differences.specs.Same.{sameIn}
+use Rattle.differences.specs.IsSame.{IsSame}
 use Rattle.differences.specs.Differences.{Difference, differences}
 
 -- the number of the second log in a matched leaf
@@ -45,3 +46,24 @@ pub record Says (S D : Datatype) (n : ℕ) (first second : List ℕ) : Type 0 wh
   pub in-order : InOrder (differences S D n first second)
   -- it is empty exactly if every matched pair is the same
   pub nothing : differences S D n first second ≡ [] ↔ ((m : MatchedLeaf S D n) → Same m first second)
+
+-- ---- the same without the test that makes the list
+
+-- the numbers of a matched leaf are the same in both logs, as `IsSame` says it
+abbrev pub AreSame : {S D : Datatype} {n : ℕ} → MatchedLeaf S D n → List ℕ → List ℕ → Type 0
+AreSame m first second = IsSame (m .source) (m .destination) (matchedNumber m first) (secondNumber m second)
+
+-- d is of a matched leaf whose numbers are not: "record, at, first, second, at in the second layout, then both numbers"
+pub record OfDifferentNumbers (S D : Datatype) (n : ℕ) (first second : List ℕ) (d : Difference) : Type 0 where
+  pub leaf : MatchedLeaf S D n
+  pub differ : ¬ (AreSame leaf first second)
+  pub index : d .index ≡ leaf .index
+  pub at : d .at ≡ leaf .to
+  pub first-number : d .first ≡ matchedNumber leaf first
+  pub second-number : d .second ≡ secondNumber leaf second
+
+pub record Means (S D : Datatype) (n : ℕ) (first second : List ℕ) : Type 0 where
+  -- "list each matched leaf where they differ", and nothing else
+  pub exactly : (d : Difference) → List·Memᴰ d (differences S D n first second) ↔ OfDifferentNumbers S D n first second d
+  -- nothing is listed exactly if every matched pair is the same
+  pub nothing : differences S D n first second ≡ [] ↔ ((m : MatchedLeaf S D n) → AreSame m first second)
