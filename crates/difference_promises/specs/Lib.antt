@@ -1,2 +1,3 @@
 pub mod Promise
 pub mod Demand1
+pub mod Kept

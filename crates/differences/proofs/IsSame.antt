@@ -19,7 +19,7 @@ use Rattle.datatype.specs.Symbols.{sameNumber, symbolOf}
 use Rattle.datatype.specs.WellFormed.{WellFormed}
 use Rattle.datatype.proofs.Tests.{nothing, and-true, both, same→eq, same-refl, sameNumber→eq, sameNumber-refl}
 use Rattle.records.specs.Leaf.{realBits}
-use Rattle.records.specs.Matched.{MatchedLeaf, matchedNumber}
+use Rattle.records.specs.Matched.{matchedNumber}
 use Rattle.differences.specs.Same.{sameNamed, sameIn}
 use Rattle.differences.specs.IsSame.{OneSymbol, OneUnnamed, IsWorth, IsSame}
 use Rattle.differences.specs.Differences.{Difference}
