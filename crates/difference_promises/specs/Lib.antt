@@ -1,3 +1,4 @@
 pub mod Promise
 pub mod Demand1
 pub mod Kept
+pub mod Own
