@@ -31,11 +31,11 @@ IsWorth (finite minus quanta) (pos n) = (quanta ≡ n * quantaPerOne) × ((minus
 IsWorth (finite minus quanta) (negsuc n) = (quanta ≡ suc n * quantaPerOne) × (minus ≡ true)
 
 abbrev pub IsSame : Leaf → Leaf → ℤ → ℤ → Type 0
--- "Numbers compare exactly, whatever the widths"
+-- ints, and bits: "Numbers compare exactly, whatever the widths"
 IsSame (atomic k) (atomic l) z w = z ≡ w
 -- "enums compare by symbol, and a number without a symbol equals only the same number without one"
 IsSame (enumeration k ss) (enumeration l ts) z w = OneSymbol ss ts z w ⊎ OneUnnamed ss ts z w
--- "a real against a real compares its 64 bits", which are its number
+-- "a real against a real compares its 64 bits": they are its number (2026-03), so a not-a-number is one with its bits, and −0.0 is not 0.0
 IsSame (real k) (real l) z w = z ≡ w
 -- "a real against an int by exact worth, where not-a-number always differs"
 IsSame (real k) (atomic l) z w = IsWorth (worth (realBits z)) w

@@ -1,4 +1,5 @@
 -- Document 02, 2026-06: when the matched number of a leaf of the first log is the same as the number in the second log's leaf.
+-- IsSame.antt says the same without a test.
 use mathlib.Core.Bool.{Bool, false}
 use mathlib.Core.List.{List}
 use mathlib.Core.Option.{Option, none, some}
