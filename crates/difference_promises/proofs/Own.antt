@@ -17,7 +17,7 @@ use Rattle.runs.specs.Run as runs
 use Rattle.runs.specs.Run.Form.{copying, inPlace}
 use Rattle.runs.specs.Run.Checked.{passed}
 use Rattle.runs.proofs.Checks.{passed-tells, room-behind, room-in-place}
-use Rattle.promises.specs.Promise.{DoneWithoutException, Types}
+use Rattle.promises.specs.Runs.{DoneWithoutException, Types}
 use Rattle.promises.proofs.Promises.{passes, not-early, kept}
 use Rattle.differences.specs.Differences.{differences, header, lines, shown}
 use Rattle.differences.specs.Call.{Call, text, checks}
