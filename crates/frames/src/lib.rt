@@ -88,7 +88,7 @@ fn look(
     ensures { λ r. ⌜ LookSays (x .handling) (typeAt (now («source_half» .entry)) (now («source_sheet» .entry)) (x .source)) (typeAt (now («destination_half» .entry)) (now («destination_sheet» .entry)) (x .destination)) (x .count) (sourceOf (x .«in_place») (now (out .entry)) (now (other .entry))) r ⌝ }
 {
     let handling = x.handling;
-    if asks_other(destination_half, handling) {
+    if asks_other(destination_half, x.destination, handling) {
         return look_by_plan(
             x,
             source_sheet,

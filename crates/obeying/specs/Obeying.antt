@@ -9,7 +9,7 @@ use Rattle.datatype.specs.Handling.{asked, orOuter, wordAt, handlingAt}
 use Rattle.datatype.specs.Matches.{matchAt}
 use Rattle.datatype.specs.Matches.Match.{unmatched}
 use Rattle.datatype.specs.WellFormed.{WellFormed}
-use Rattle.table.specs.Table.{classWord, firstWord, rowsWord, wordAtRow, node}
+use Rattle.table.specs.Table.{classWord, baseWord, firstWord, rowsWord, memberTypeWord, wordAtRow, node}
 use Rattle.paths.specs.Steps.{Sized}
 use Rattle.obeying.specs.declared.Down.{Down}
 use Rattle.obeying.specs.declared.Down.the-variants.{Go, Ends}
@@ -21,13 +21,14 @@ wordAfter D Ends = Silent
 abbrev pub WordStep : List ℕ → ℕ → ℕ → Down → Type 0
 WordStep w i b r = (D : ℕ → Datatype) (t : List ℕ) → Sized D w → wordAt (node D w t i) b ≡ wordAfter D r
 
--- of the n rows from first on, none has a word that asks for another handling than h
-abbrev pub RowsObey : List ℕ → ℕ → ℕ → ℕ → Type 0
-RowsObey w h first n = (j : ℕ) → j < n → asked (wordAtRow w (first + j)) h ≡ h
+-- of the n rows from first on, members of type i, none has a word that asks for another handling than h, and each is of a type before i
+abbrev pub RowsObey : List ℕ → ℕ → ℕ → ℕ → ℕ → Type 0
+RowsObey w h i first n = (j : ℕ) → j < n → (asked (wordAtRow w (first + j)) h ≡ h) × (memberTypeWord w (first + j) < i)
 
--- no member of type i has such a word
-abbrev pub TypeObeys : List ℕ → ℕ → ℕ → Type 0
-TypeObeys w h i = classWord w i ≡ 3 → RowsObey w h (firstWord w i) (rowsWord w i)
+-- no member of type i has such a word, and what it is made of are types before i
+pub record TypeObeys (w : List ℕ) (h i : ℕ) : Type 0 where
+  pub members : classWord w i ≡ 3 → RowsObey w h i (firstWord w i) (rowsWord w i)
+  pub elements : classWord w i ≡ 4 → baseWord w i < i
 
 -- of D, the leaves that obey stop in a call with handling h are left in E
 pub record StopsOf (h : ℕ) (D E : Datatype) : Type 0 where

@@ -94,15 +94,20 @@ pub fn handling_at(half: &[u32], type_number: usize, byte: usize, handling: u32)
     obeyed
 }
 
-// Whether one of the n rows from first on has a word that asks for another handling than the call's.
-fn rows_ask(half: &[u32], first: usize, n: usize, handling: u32) -> bool
+// Whether one of the n rows from first on, members of a type, has a word that asks for another handling than the call's; or is not of an earlier type, which no
+// sheet has.
+fn rows_ask(half: &[u32], type_number: usize, first: usize, n: usize, handling: u32) -> bool
     requires { ⌜ (first < 4294967296) × (n < 4294967296) ⌝ }
-    ensures { λ r. ⌜ (r ≡ false → RowsObey (now (half .entry)) handling first n) ⌝ }
+    ensures { λ r. ⌜ (r ≡ false → RowsObey (now (half .entry)) handling «type_number» first n) ⌝ }
 {
     let mut row: usize = 0;
     while row < n {
         let word = word_of(row_word(half, first + row, MEMBER_WORD));
         if ask(word, handling) != handling {
+            return true;
+        }
+        let inner = row_word(half, first + row, MEMBER_TYPE);
+        if type_number <= inner {
             return true;
         }
         row += 1;
@@ -113,21 +118,29 @@ fn rows_ask(half: &[u32], first: usize, n: usize, handling: u32) -> bool
 fn type_asks(half: &[u32], type_number: usize, handling: u32) -> bool
     ensures { λ r. ⌜ (r ≡ false → TypeObeys (now (half .entry)) handling «type_number») ⌝ }
 {
-    if type_word(half, type_number, CLASS) == COMPOUND {
+    let class = type_word(half, type_number, CLASS);
+    if class == COMPOUND {
         let first = type_word(half, type_number, FIRST);
         let n = type_word(half, type_number, ROWS);
-        return rows_ask(half, first, n, handling);
+        return rows_ask(half, type_number, first, n, handling);
+    }
+    if class == ARRAY {
+        let inner = type_word(half, type_number, BASE);
+        return type_number <= inner;
     }
     false
 }
 
-// Whether the word of some member of a sheet asks for another handling than the call's. Where none does, each leaf obeys the call.
-// Types that the sheet does not have are no compounds, whatever earlier sheets left in rows.
-pub fn asks_other(half: &[u32], handling: u32) -> bool
-    ensures { λ r. ⌜ (r ≡ false → (t : List ℕ) (k b : ℕ) → handlingAt handling (typeAt (now (half .entry)) t k) b ≡ handling) ⌝ }
+// Whether the word of some member of a sheet, in a type up to this one, asks for another handling than the call's. Where none does, each leaf of the type obeys the
+// call: it is made of types before it.
+pub fn asks_other(half: &[u32], type_number: usize, handling: u32) -> bool
+    ensures { λ r. ⌜ (r ≡ false → (t : List ℕ) (b : ℕ) → handlingAt handling (typeAt (now (half .entry)) t «type_number») b ≡ handling) ⌝ }
 {
     let mut k: usize = 0;
     while k < MOST_TYPES {
+        if type_number < k {
+            return false;
+        }
         if type_asks(half, k, handling) {
             return true;
         }

@@ -10,7 +10,7 @@ returns-2 c =
     let x = c .before .before .before .before .before .before .before .before .before .before in
     let a = x .args in
     obeys-decided (a .x .handling) _ _ (a .x .count) (sourceOf (a .x .«in_place») (a .out .now) (a .other .now)) (x .pre .1)
-    (λ b. c .before .asks-other .ensures (c .if1 .left) _ _ b)
+    (λ b. c .before .asks-other .ensures (c .if1 .left) _ b)
 
 pub look-spec : {M : Type 1} → statement M
 look-spec =
