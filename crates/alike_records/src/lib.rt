@@ -1,4 +1,6 @@
 // Records of two logs that have no difference, told by a conversion of the first log's. It is no full answer: records without a difference may yet differ in bytes that no number turns on.
+#![tactic(auto)]
+
 ghost use Rattle.std.specs.Prelude.{◌≡◌, true, cond, [], ℕ, ◌*◌, ◌≤◌, ◌<◌, eqb, length, take};
 ghost use Rattle.datatype.specs.Datatype.{size, same};
 ghost use Rattle.records.specs.Records.{record_at};

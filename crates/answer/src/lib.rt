@@ -1,8 +1,10 @@
 // What a call answers: done, or the refusal by the first check that fails. Numbers and fields are those of document 01's table, and of document 02 from 10 on.
+#![tactic(auto)]
+
 ghost use Rattle.std.specs.Prelude.{◌≡◌};
 ghost use Rattle.answer.specs.Answer.{number_of, given_sign, given_magnitude, values_of};
 
-#[derive(Drop)]
+#[derive(Clone, Copy)]
 pub enum Answer {
     // The exception count; of a call that writes text, that text's length in bytes.
     Done(u64),
@@ -27,7 +29,7 @@ pub enum Answer {
 
 // The number that was given to the step that fits a number into its destination: a whole number by its sign, true where it is negative, and its magnitude, or
 // the 64 bits of a real.
-#[derive(Drop)]
+#[derive(Clone, Copy)]
 pub enum Given {
     Whole(bool, u64),
     Real(u64),
@@ -41,7 +43,7 @@ pub const MINUS: u32 = 1;
 pub const REAL: u32 = 2;
 
 // The fields that document 01's table names beside an answer's number; a field that the table does not name is 0.
-#[derive(Drop)]
+#[derive(Clone, Copy)]
 pub struct Values {
     pub count: u64,
     pub line: u32,

@@ -1,4 +1,6 @@
 // An answer as C gets it: its number, and eight words.
+#![tactic(auto)]
+
 ghost use Rattle.answer_words.specs.AnswerWords.{Gives};
 
 use answer::{Answer, number_of, values_of};

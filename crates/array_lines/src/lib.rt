@@ -1,4 +1,6 @@
 // The line of an array from behind its first word.
+#![tactic(auto)]
+
 ghost use Rattle.std.specs.Prelude.{◌≡◌};
 ghost use Rattle.line.specs.Line.{array_line_of};
 ghost use Rattle.line.specs.Read.{Reads, columns_reading, array_read};

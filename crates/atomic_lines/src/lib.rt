@@ -1,4 +1,6 @@
 // The columns of a layout, and the lines of an int, of a bits and of a real from behind their first word.
+#![tactic(auto)]
+
 ghost use Rattle.std.specs.Prelude.{◌≡◌};
 ghost use Rattle.line.specs.Line.{int_line, bits_line, real_line_of};
 ghost use Rattle.line.specs.Column.{place_at, pads_at, layout_at, signed_as};

@@ -1,21 +1,23 @@
 // Bytes as one number, in either byte order: units of place, shifts, masks, reads and writes.
+#![tactic(auto)]
+
 ghost use Rattle.std.specs.Prelude.{◌≡◌, ◌*◌, ◌<◌};
 ghost use Rattle.bits.specs.Index.{index_of};
 
 pub mod shift;
 
 // Which end of a container its lowest byte is at: the lowest address (LE) or the highest (BE).
-#[derive(Drop)]
+#[derive(Clone, Copy)]
 pub enum Order {
     LE,
     BE,
 }
 
 // A place or a length in bytes, and one in bits. They are different types, so that no sum mixes them.
-#[derive(Drop)]
+#[derive(Clone, Copy)]
 pub struct ByteAt(pub usize);
 
-#[derive(Drop)]
+#[derive(Clone, Copy)]
 pub struct BitAt(pub u32);
 
 // The one place where bytes become bits.

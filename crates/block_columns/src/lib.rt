@@ -1,4 +1,6 @@
 // A block of records, leaf by leaf: an entry of the plan is done in all of them before the next.
+#![tactic(auto)]
+
 ghost use Rattle.std.specs.Prelude.{◌≡◌, List, ℕ, ◌*◌, ◌≤◌, length};
 ghost use Rattle.plans.specs.PlanWords.{Ready, entries_of};
 ghost use Rattle.column_slots.specs.Slots.{Kept};

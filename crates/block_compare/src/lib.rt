@@ -1,5 +1,7 @@
 // Records `from` up to `to` of two logs, the last not among them: the length of their lines, and the lines themselves. They are first compared together, by a conversion; where they may differ, one
 // by one; and where one may differ, leaf by leaf.
+#![tactic(auto)]
+
 ghost use Rattle.std.specs.Prelude.{◌≡◌, true, List, [], ℕ, ◌+◌, ◌*◌, ◌-◌, ◌≤◌, ◌<◌, length};
 ghost use Rattle.text.specs.Written.{Wrote};
 ghost use Rattle.comparing.specs.Comparing.{TwoLogs, text_between};

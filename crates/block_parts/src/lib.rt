@@ -1,4 +1,6 @@
 // A block of records that fall into equal parts is a longer block of the parts.
+#![tactic(auto)]
+
 ghost use Rattle.std.specs.Prelude.{◌≡◌, List, ℕ, ◌*◌, ◌/◌, ◌≤◌, length};
 ghost use Rattle.plans.specs.PlanWords.{Ready, entries_of};
 ghost use Rattle.column_slots.specs.Slots.{Kept};

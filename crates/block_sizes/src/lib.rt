@@ -1,4 +1,6 @@
 // How many records make a block.
+#![tactic(auto)]
+
 ghost use Rattle.std.specs.Prelude.{◌≡◌, ◌*◌, ◌≤◌, ◌<◌};
 
 // The most records of a block: as many numbers of a column are held at once.
@@ -18,7 +20,7 @@ const HALF: usize = 128;
 const QUARTER: usize = 64;
 
 // How far the blocks of a call have come: so many records, and the exceptions that they raised.
-#[derive(Drop)]
+#[derive(Clone, Copy)]
 pub struct Progress {
     pub records: usize,
     pub raised: u64,

@@ -1,4 +1,6 @@
 // Many records at once: those that stay as they are in one piece, others in blocks.
+#![tactic(auto)]
+
 ghost use Rattle.std.specs.Prelude.{◌-◌, ◌*◌, ◌≤◌, length};
 ghost use Rattle.plans.specs.PlanWords.{Job};
 ghost use Rattle.loops.specs.Steps.{Done, Up, Down};

@@ -1,4 +1,6 @@
 // Whole calls: the exercises of document 01 that are not in the proved table, and a word of a member.
+#![tactic(auto)]
+
 use convert::convert_copying;
 use shown::{show, show_answer, show_bytes};
 

@@ -1,4 +1,6 @@
 // The calls for C: an answer and a layout are eight words each, lent by one pointer; a slice is a pointer and a length.
+#![tactic(auto)]
+
 ghost use Rattle.std.specs.Prelude.{length};
 ghost use Rattle.runs.specs.Run.{copying_run, in_place_run, plain};
 ghost use Rattle.leaves.specs.Call.{answer_of as listAnswerOf, list_after};

@@ -1,4 +1,6 @@
 // Checks 3 to 7 and 12 of a converting call: two sheets, the path between their types, the symbols, the count and the room.
+#![tactic(auto)]
+
 ghost use Rattle.std.specs.Prelude.{◌≡◌, List, ℕ, ◌≤◌, length};
 ghost use Rattle.runs.specs.Run.{has_room};
 ghost use Rattle.two_sheets.specs.TwoSheets.{ReadAs, Both};

@@ -1,4 +1,6 @@
 // Whole calls, one for each classroom error.
+#![tactic(auto)]
+
 use convert::{convert_copying, convert_in_place, convert_in_place_plain};
 use shown::{show, show_answer, show_bytes};
 

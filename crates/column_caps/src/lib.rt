@@ -1,4 +1,6 @@
 // Numbers of at most 31 bits that can only be too large, side by side: each comes to the upper end of the range where it lies above it.
+#![tactic(auto)]
+
 ghost use Rattle.std.specs.Prelude.{◌≡◌, ℕ, ◌<◌, ◌≤◌, true, length, slice_index};
 ghost use Rattle.column_words.specs.Words.{make_by, count_by, Fits};
 ghost use Rattle.column_words.specs.Fit.{clamped};

@@ -1,4 +1,6 @@
 // The same leaf of records that lie one after the other, read into numbers of 32 bits side by side: a column is loaded.
+#![tactic(auto)]
+
 ghost use Rattle.std.specs.Prelude.{◌≡◌, ℕ, ◌+◌, ◌*◌, ◌/◌, ◌%◌, ◌^◌, ◌≤◌, ◌<◌, length, get_or};
 ghost use Rattle.blocks.specs.Blocks.{container_in};
 

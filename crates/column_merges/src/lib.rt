@@ -1,4 +1,6 @@
 // Numbers side by side, written to the same leaf of records that lie one after the other, among bits of the background that stay.
+#![tactic(auto)]
+
 ghost use Rattle.std.specs.Prelude.{◌≡◌, ℕ, ◌+◌, ◌*◌, ◌^◌, ◌≤◌, ◌<◌, length, get_or};
 ghost use Rattle.blocks.specs.Blocks.{each_record, merge_in};
 

@@ -1,4 +1,6 @@
 // The words of the pairs of types that a call has met: they are worked out once, and then found by the pair. A pair whose slot another has taken is worked out again.
+#![tactic(auto)]
+
 ghost use Rattle.std.specs.Prelude.{◌≡◌, ℕ, ◌+◌, ◌*◌, ◌≤◌, ◌<◌, length, get_or};
 ghost use Rattle.std.proofs.Math.Seq.{paste};
 ghost use Rattle.layout.specs.Layout.{Valid};

@@ -1,4 +1,6 @@
 // Numbers of 32 bits side by side, written to the same leaf of records that lie one after the other: a column is stored.
+#![tactic(auto)]
+
 ghost use Rattle.std.specs.Prelude.{◌≡◌, ℕ, ◌+◌, ◌*◌, ◌^◌, ◌≤◌, ◌<◌, length, get_or};
 ghost use Rattle.blocks.specs.Blocks.{each_record, merge_in};
 

@@ -1,4 +1,6 @@
 // What a column needs to know of its two layouts, worked out from them.
+#![tactic(auto)]
+
 ghost use Rattle.std.specs.Prelude.{◌≡◌, ◌+◌, ◌-◌, ◌*◌, ◌^◌, ◌≤◌, ◌<◌, min};
 ghost use Rattle.layout.specs.Layout.{Valid};
 ghost use Rattle.column_words.specs.Fit.{half_of, most_of, low_end, high_end};
@@ -11,7 +13,7 @@ use layout::{Layout, Pad};
 
 // The words of two layouts. A number is read from a container of source_size bytes, goes down by shift, has half added under mask, comes between low and high, has half taken
 // away under into, goes up, and stands among ones and the bits of the background under keep, in a container of size bytes.
-#[derive(Drop)]
+#[derive(Clone, Copy)]
 pub struct Words {
     pub source_size: usize,
     pub source_order: Order,

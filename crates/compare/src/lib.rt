@@ -1,4 +1,6 @@
 // Two logs compared, as a whole call: checks in the order of documents 01 and 02, the working table, the answer.
+#![tactic(auto)]
+
 ghost use Rattle.std.specs.Prelude.{◌≡◌, false, length};
 ghost use Rattle.table.specs.Table.{type_at};
 ghost use Rattle.runs.specs.Run.{on_checked};

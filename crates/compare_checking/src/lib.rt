@@ -1,4 +1,6 @@
 // Checks 3 to 7 of a call that compares two logs: two sheets, the path between their types, the count and the room of the logs.
+#![tactic(auto)]
+
 ghost use Rattle.std.specs.Prelude.{◌≡◌, length};
 ghost use Rattle.two_sheets.specs.TwoSheets.{ReadAs, Both};
 ghost use Rattle.compare_checking.specs.Checks.{TypesSay, SheetsSay};

@@ -1,4 +1,6 @@
 // The list of two logs; and its plan, in arrays of the size that the call needs.
+#![tactic(auto)]
+
 ghost use Rattle.std.specs.Prelude.{false, ◌≤◌, length};
 ghost use Rattle.datatype.specs.Datatype.{size};
 ghost use Rattle.table.specs.Table.{type_at};
@@ -18,7 +20,7 @@ use table::read::type_word;
 const SMALL: usize = 128;
 
 // Two logs that no check of theirs refuses: of so many records, which are of a type of the first sheet and of one of the second.
-#[derive(Drop)]
+#[derive(Clone, Copy)]
 pub struct TypedLogs {
     pub count: usize,
     pub first: usize,

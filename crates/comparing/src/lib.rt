@@ -1,8 +1,10 @@
 // What the parts of comparing two logs hand on, and what they promise: definitions in specs/, laws in proofs/, no code.
+#![tactic(auto)]
+
 use number::Number;
 
 // Two logs behind the checks: so many records, the bytes of a record of the first and of the second, and how many entries the plan has.
-#[derive(Drop)]
+#[derive(Clone, Copy)]
 pub struct Logs {
     pub count: usize,
     pub first_size: usize,
@@ -11,7 +13,7 @@ pub struct Logs {
 }
 
 // The numbers of a matched leaf: the same in both logs, or the two that differ.
-#[derive(Drop)]
+#[derive(Clone, Copy)]
 pub enum Compared {
     Same,
     Differ(Number, Number),

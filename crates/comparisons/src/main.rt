@@ -1,4 +1,6 @@
 // A worked comparison: two logs of two records that have one difference; refusals; and the list where it has just enough room.
+#![tactic(auto)]
+
 use compare::compare;
 use shown::{show, show_answer};
 

@@ -1,4 +1,6 @@
 // The four converting forms as whole calls: checks in the table's order, the working table, answers.
+#![tactic(auto)]
+
 ghost use Rattle.std.specs.Prelude.{◌≡◌, ◌≤◌, length};
 ghost use Rattle.table.specs.Table.{type_at};
 ghost use Rattle.runs.specs.Run.{copying_run, in_place_run, plain, Answers};

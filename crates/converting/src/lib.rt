@@ -1,4 +1,6 @@
 // The records of a call, behind its checks and with its plan made.
+#![tactic(auto)]
+
 ghost use Rattle.std.specs.Prelude.{◌≡◌, ℕ, ◌*◌, ◌≤◌, length};
 ghost use Rattle.records.specs.Plan.{plan_of};
 ghost use Rattle.plans.specs.PlanWords.{Job};

@@ -1,4 +1,6 @@
 // Copying: a source buffer, and a destination buffer whose own bytes are the background.
+#![tactic(auto)]
+
 ghost use Rattle.std.specs.Prelude.{◌≡◌, ◌*◌, ◌≤◌, length};
 ghost use Rattle.records.specs.Records.{readings, exceptions, copy_result};
 ghost use Rattle.plans.specs.PlanWords.{Job};

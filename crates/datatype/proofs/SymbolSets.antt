@@ -40,6 +40,7 @@ named_symbol : (x : List ℕ) (ts : List Symbol) (s : Symbol) → Memᴰ s ts �
 unfolding has_symbol
 named_symbol x (t ∷ ts) s (Memᴰ.head p) e = rw (← e, p, same_refl t.name)
 named_symbol x (t ∷ ts) s (Memᴰ.tail m) e = rw (named_symbol x ts s m e) (or_true (same x t.name))
+named_symbol x [] s x3 e = elim x3 [ ]
 
 stands : (ss ts : List Symbol) → all_stand_in ss ts ≡ true → (x : List ℕ) → Named x ss → Named x ts
 unfolding all_stand_in
@@ -48,6 +49,7 @@ stands ss ts e x (s, m, n) = go ss e m
     go : (us : List Symbol) → all_stand_in us ts ≡ true → Memᴰ s us → Named x ts
     go (u ∷ us) f (Memᴰ.head p) = symbol_named x ts (rw (← n, p) (and_true (has_symbol u.name ts) (all_stand_in us ts) f).0)
     go (u ∷ us) f (Memᴰ.tail k) = go us (and_true (has_symbol u.name ts) (all_stand_in us ts) f).1 k
+    go [] f x4 = elim x4 [ ]
 
 -- a symbol of ss whose name ts lacks
 abbrev Lost : List Symbol → List Symbol → Type 0

@@ -1,7 +1,8 @@
 // Datatypes as trees, their leaves, paths and matches: definitions in specs/, laws in proofs/, and no function.
+#![tactic(auto)]
 
 // The word that a member's line may end in: what the leaves inside the member obey where no member further inside has one. A member without a word is silent.
-#[derive(Drop)]
+#[derive(Clone, Copy)]
 pub enum Word {
     Silent,
     Clamp,

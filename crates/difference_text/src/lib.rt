@@ -1,4 +1,6 @@
 // A line of the list of differences by its columns: its length, and its bytes at a place; and the list's header.
+#![tactic(auto)]
+
 ghost use Rattle.std.specs.Prelude.{◌≡◌, ◌+◌, ◌≤◌, length};
 ghost use Rattle.text.specs.Field.{signed_of};
 ghost use Rattle.text.specs.Written.{Wrote};

@@ -1,4 +1,6 @@
 // Leaves that never raise an exception and need no background: their words, worked out once a call, and their conversion by these words alone.
+#![tactic(auto)]
+
 ghost use Rattle.std.specs.Prelude.{◌≡◌, ◌+◌, ◌-◌, ◌*◌, ◌/◌, ◌%◌, ◌^◌, ◌≤◌, ◌<◌, length, get_or, take, drop, [], ◌∷◌, ◌&&◌};
 ghost use Rattle.bits.specs.Container.{container, field};
 ghost use Rattle.number.specs.Number.{number_at, fitted};

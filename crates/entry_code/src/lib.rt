@@ -1,4 +1,6 @@
 // The packed word of an entry, apart and together.
+#![tactic(auto)]
+
 ghost use Rattle.std.specs.Prelude.{◌≡◌, ◌≤◌, ◌<◌};
 ghost use Rattle.entry_code.specs.Code.{packed, route_in, shift_in, precision_in, size_in, order_in, bits_in};
 

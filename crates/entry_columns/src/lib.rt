@@ -1,5 +1,7 @@
 // One entry of a plan in a block of records, by its kind: between two numbers, or two reals, it goes by the words of its types, between a real and another leaf by their layouts, between two enums
 // by their table.
+#![tactic(auto)]
+
 ghost use Rattle.std.specs.Prelude.{◌≡◌, List, ℕ, ◌+◌, ◌*◌, ◌≤◌, ◌<◌, length, get_or};
 ghost use Rattle.layout.specs.Layout.{Valid};
 ghost use Rattle.table.specs.Table.{layout_at};

@@ -1,4 +1,6 @@
 // The words by which the entries of a plan are converted, worked out once a call.
+#![tactic(auto)]
+
 ghost use Rattle.std.specs.Prelude.{◌≡◌, true, [], ◌∷◌, ℕ, ◌+◌, ◌*◌, ◌≤◌, ◌<◌, length, get_or};
 ghost use Rattle.easy.specs.Easy.{with_words};
 ghost use Rattle.plans.specs.PlanWords.{source_type_of, destination_type_of, words_place};

@@ -1,4 +1,6 @@
 // One leaf that is an enum: what its number becomes, and where that is written.
+#![tactic(auto)]
+
 ghost use Rattle.std.specs.Prelude.{◌≡◌, List, ℕ, ◌+◌, ◌^◌, ◌≤◌, ◌<◌, length, get_or};
 ghost use Rattle.layout.specs.Layout.{Valid};
 ghost use Rattle.number.specs.Place.{raw_at, stored};

@@ -1,4 +1,6 @@
 // Which rows of a destination enum stand for which significant bits of a source enum: worked out once a call, so that no name is compared in a record.
+#![tactic(auto)]
+
 ghost use Rattle.std.specs.Prelude.{◌≡◌, ℕ, ◌+◌, ◌^◌, ◌≤◌, ◌<◌, min, max, length, get_or};
 ghost use Rattle.table.specs.Table.{first_word, rows_word, layout_at, name_at};
 ghost use Rattle.table.specs.Rows.{row_named};
@@ -20,14 +22,14 @@ const WORD_BITS: u32 = 32;
 const WORD_MOST: u64 = 4294967295;
 
 // Significant bits among which all symbols of an enum are: the lowest, and how many from there on.
-#[derive(Drop)]
+#[derive(Clone, Copy)]
 pub enum Span {
     Of(u32, u32),
     Wide,
 }
 
 // The least bits that a row has, and those after the largest.
-#[derive(Drop)]
+#[derive(Clone, Copy)]
 struct Ends {
     low: u64,
     end: u64,

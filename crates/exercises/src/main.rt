@@ -1,4 +1,6 @@
 // Runs exercises of documents 01 and 02 through the code, and prints each answer beside its text.
+#![tactic(auto)]
+
 use bits::{BitAt, ByteAt, Order};
 use layout::Pad;
 use numbers_shown::{convert, edit, int, plain, read, write};

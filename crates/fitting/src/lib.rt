@@ -1,4 +1,6 @@
 // A number brought into the range of a layout.
+#![tactic(auto)]
+
 ghost use Rattle.std.specs.Prelude.{◌≡◌, ◌^◌, ◌≤◌, ◌<◌, true, false, pos};
 ghost use Rattle.layout.specs.Layout.{Valid};
 ghost use Rattle.number.specs.Number.{valued, largest, smallest, bits_of, number_given, fitted_to, fitted};

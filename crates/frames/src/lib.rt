@@ -1,4 +1,6 @@
 // The plan of a call and its words, in arrays of the size that the call needs.
+#![tactic(auto)]
+
 ghost use Rattle.std.specs.Prelude.{◌≡◌, true, false, ◌≤◌, length};
 ghost use Rattle.datatype.specs.Datatype.{size};
 ghost use Rattle.table.specs.Table.{type_at};

@@ -1,4 +1,6 @@
 // What one leaf gives to the step that fits its number into the destination, as STOP names it.
+#![tactic(auto)]
+
 ghost use Rattle.std.specs.Prelude.{◌≡◌, List, ℕ, ◌+◌, ◌≤◌, length};
 ghost use Rattle.datatype.specs.WellFormed.{WellFormedLeaf};
 ghost use Rattle.records.specs.Leaf.{number_in, given_of};

@@ -1,4 +1,6 @@
 // In place: one buffer, and a separate background.
+#![tactic(auto)]
+
 ghost use Rattle.std.specs.Prelude.{◌≡◌, ◌*◌, ◌≤◌, length, take, drop};
 ghost use Rattle.records.specs.Records.{readings, exceptions, in_place_result};
 ghost use Rattle.plans.specs.PlanWords.{Job};

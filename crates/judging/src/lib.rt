@@ -1,4 +1,6 @@
 // A line judged by itself and the lines before it, which are in the table; an accepted one is added.
+#![tactic(auto)]
+
 ghost use Rattle.std.specs.Prelude.{◌≡◌, true, ◌+◌, ◌<◌, length};
 ghost use Rattle.number.specs.Parts.{signed_by};
 ghost use Rattle.datatype.specs.Datatype.{binary64};

@@ -1,25 +1,27 @@
 // Layouts of atomic datatypes, and when they are valid.
+#![tactic(auto)]
+
 ghost use Rattle.std.specs.Prelude.{◌≡◌, ◌&&◌, ◌+◌, ◌*◌, ◌≤◌, leb};
 ghost use Rattle.layout.specs.Layout.{may_sign, valid};
 
 use answer::Answer;
 use bits::{BitAt, ByteAt, Order, bits_of};
 
-#[derive(Drop)]
+#[derive(Clone, Copy)]
 pub enum Class {
     Int,
     Bits,
 }
 
 // What a write puts beside the significant bits: zeros, ones, or the background's own bits.
-#[derive(Drop)]
+#[derive(Clone, Copy)]
 pub enum Pad {
     Zero,
     One,
     Keep,
 }
 
-#[derive(Drop)]
+#[derive(Clone, Copy)]
 pub struct Layout {
     pub class: Class,
     pub size: ByteAt,
@@ -32,7 +34,7 @@ pub struct Layout {
 }
 
 // What a setter gives: done or RANGE, and the layout after it.
-#[derive(Drop)]
+#[derive(Clone, Copy)]
 pub struct Edited {
     pub answer: Answer,
     pub layout: Layout,

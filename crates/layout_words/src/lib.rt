@@ -1,4 +1,6 @@
 // A layout as eight words, and the setters over them.
+#![tactic(auto)]
+
 ghost use Rattle.std.specs.Prelude.{◌≡◌, ◌&&◌, ◌<◌, ◌^◌, get_or};
 ghost use Rattle.layout_words.specs.Codes.{class_code, order_code, pad_code, sign_code, layout_words};
 ghost use Rattle.layout_words.specs.Codes.{class_of, order_of, pad_of, sign_of, is_coded, layout_of};

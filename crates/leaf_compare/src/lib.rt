@@ -1,4 +1,6 @@
 // One matched leaf of two logs: whether its numbers are the same.
+#![tactic(auto)]
+
 ghost use Rattle.std.specs.Prelude.{◌≡◌, ◌+◌, ◌≤◌, length};
 ghost use Rattle.layout.specs.Layout.{Valid};
 ghost use Rattle.number.specs.Number.{number_at};

@@ -1,4 +1,6 @@
 // The lines of a type's leaves: their length, and their bytes behind the header.
+#![tactic(auto)]
+
 ghost use Rattle.std.specs.Prelude.{◌≡◌, List, ◌++◌, ℕ, ◌+◌, ◌*◌, ◌≤◌, length};
 ghost use Rattle.table.specs.Table.{type_at};
 ghost use Rattle.text.specs.Written.{written, Wrote};

@@ -1,4 +1,6 @@
 // The leaf list: every leaf of a sheet's type, a line each.
+#![tactic(auto)]
+
 ghost use Rattle.std.specs.Prelude.{◌≡◌, List, ℕ, ◌≤◌, length};
 ghost use Rattle.runs.specs.Run.{table_after};
 ghost use Rattle.table.specs.Table.{size_word, type_at};

@@ -1,4 +1,6 @@
 // The lines of a sheet, each read column by column at its place of the text.
+#![tactic(auto)]
+
 ghost use Rattle.line.specs.Read.{plain_line};
 ghost use Rattle.std.specs.Prelude.{◌≡◌};
 
@@ -7,7 +9,7 @@ use datatype::Word;
 use layout::{Layout, Pad};
 
 // What a line says, and the place behind it. A value's number is its sign and its distance from 0, or from -1 where it is negative.
-#[derive(Drop)]
+#[derive(Clone, Copy)]
 pub enum Line {
     // The layout of an int or a bits.
     Atomic(Layout, usize),
@@ -27,67 +29,67 @@ pub enum Line {
 }
 
 // A line, and the dimensions of an array: 0 for none.
-#[derive(Drop)]
+#[derive(Clone, Copy)]
 pub struct ReadLine {
     pub line: Line,
     pub dims: [u32; 4],
 }
 
 // What a column holds, and where it ends. Of a name also where it starts.
-#[derive(Drop)]
+#[derive(Clone, Copy)]
 pub enum NameColumn {
     Holds(usize, usize),
     Fault,
 }
 
-#[derive(Drop)]
+#[derive(Clone, Copy)]
 pub enum OrderColumn {
     Holds(Order, usize),
     Fault,
 }
 
-#[derive(Drop)]
+#[derive(Clone, Copy)]
 pub enum PadColumn {
     Holds(Pad, usize),
     Fault,
 }
 
-#[derive(Drop)]
+#[derive(Clone, Copy)]
 pub enum SignColumn {
     Holds(bool, usize),
     Fault,
 }
 
 // A member's word: where the line has no such column, it is silent, and the place is where the field before it ended.
-#[derive(Drop)]
+#[derive(Clone, Copy)]
 pub enum WordColumn {
     Holds(Word, usize),
     Fault,
 }
 
 // Where the next line starts.
-#[derive(Drop)]
+#[derive(Clone, Copy)]
 pub enum Next {
     At(usize),
     Fault,
 }
 
 // Size, order, offset and precision.
-#[derive(Drop)]
+#[derive(Clone, Copy)]
 pub enum PlaceColumns {
     Holds(u32, Order, u32, u32, usize),
     Fault,
 }
 
 // Lsb and msb.
-#[derive(Drop)]
+#[derive(Clone, Copy)]
 pub enum PadColumns {
     Holds(Pad, Pad, usize),
     Fault,
 }
 
 // All six, as an unsigned layout.
-#[derive(Drop)]
+#[derive(Clone, Copy)]
 pub enum LayoutColumns {
     Holds(Layout, usize),
     Fault,

@@ -1,4 +1,6 @@
 // A column of a line: its tab stands at q, where the field before it ended.
+#![tactic(auto)]
+
 ghost use Rattle.std.specs.Prelude.{◌≡◌};
 ghost use Rattle.text.specs.Field.{number, name};
 ghost use Rattle.datatype.specs.declared.Word.TheVariants.{Silent};

@@ -1,4 +1,6 @@
 // A line of a sheet, by its first word.
+#![tactic(auto)]
+
 ghost use Rattle.std.specs.Prelude.{◌≡◌};
 ghost use Rattle.text.specs.Place.{field_at};
 ghost use Rattle.line.specs.Read.{Reads, line_reading, kind_reading, later_kind};

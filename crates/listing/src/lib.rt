@@ -1,4 +1,6 @@
 // What the list program prints for a sheet: its leaf list, or the one line of a refusal; and beside a refusal, for standard error, the faulty line itself.
+#![tactic(auto)]
+
 ghost use Rattle.std.specs.Prelude.{◌≡◌, ◌≤◌, length};
 ghost use Rattle.sheet.specs.Sheet.{sheet_of};
 ghost use Rattle.text.specs.Written.{written, Wrote};
@@ -12,7 +14,7 @@ use text_writing::{put_bytes, put_decimal};
 pub mod note;
 
 // A list of so many bytes; or a refusal's line of so many bytes, and the number of the faulty line.
-#[derive(Drop)]
+#[derive(Clone, Copy)]
 pub enum Output {
     List(usize),
     Refused(usize, u32),

@@ -1,4 +1,6 @@
 // The list program's work on each file that an argument names, with what it says on standard error among what it prints.
+#![tactic(auto)]
+
 use libc::STDOUT_FILENO;
 
 // Lists the sheet in the file that argument i names, under that name.

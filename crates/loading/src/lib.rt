@@ -1,4 +1,6 @@
 // Reads a container: the number that some bytes hold, and a field of its bits.
+#![tactic(auto)]
+
 ghost use Rattle.std.specs.Prelude.{◌≡◌, ◌+◌, ◌*◌, ◌^◌, ◌≤◌, ◌<◌, length, take, drop, get_or};
 ghost use Rattle.bits.specs.Container.{container, field};
 

@@ -1,4 +1,6 @@
 // The list of the differences of two logs: its length, and the list itself, by blocks of records.
+#![tactic(auto)]
+
 ghost use Rattle.std.specs.Prelude.{◌≡◌, ◌*◌, ◌-◌, ◌≤◌, ◌<◌, length};
 ghost use Rattle.text.specs.Written.{Wrote};
 ghost use Rattle.comparing.specs.Comparing.{TwoLogs, text_of};

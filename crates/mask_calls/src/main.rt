@@ -1,4 +1,6 @@
 // Worked calls for the mask: fields of either byte order, an enum, a real, a member that the destination lacks and a gap; and refusals.
+#![tactic(auto)]
+
 use reach::reach;
 use shown::{show, show_answer, show_bytes};
 

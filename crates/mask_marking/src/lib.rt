@@ -1,4 +1,6 @@
 // The mask of two types: the significant bits of every matched source leaf, set over a record of zeros. It goes from match to match as the plan of a call does, without an array for one.
+#![tactic(auto)]
+
 ghost use Rattle.std.specs.Prelude.{◌≡◌, List, ℕ, ◌+◌, ◌-◌, ◌^◌, ◌≤◌, length};
 ghost use Rattle.layout.specs.Layout.{Valid};
 ghost use Rattle.number.specs.Place.{stored};

@@ -1,1 +1,2 @@
 // Which bits of a source record a conversion can turn on: definitions in specs/, laws in proofs/, no code.
+#![tactic(auto)]

@@ -1,4 +1,6 @@
 // Which source leaf the leaf at a byte of a destination type is matched with.
+#![tactic(auto)]
+
 ghost use Rattle.std.specs.Prelude.{◌≡◌, true, List, ℕ, ◌<◌};
 ghost use Rattle.datatype.specs.Datatype.{size};
 ghost use Rattle.datatype.specs.WellFormed.{WellFormed};

@@ -1,4 +1,6 @@
 // Names in a text, compared byte by byte.
+#![tactic(auto)]
+
 ghost use Rattle.std.specs.Prelude.{◌≡◌, ◌<◌, get_or};
 ghost use Rattle.datatype.specs.Datatype.{same};
 ghost use Rattle.table.specs.Table.{bytes_at, name_at};

@@ -1,4 +1,6 @@
 // Ids of the names of rows, in the first words beside a plan: equal where names are, so that records are converted without their sheets' texts.
+#![tactic(auto)]
+
 ghost use Rattle.std.specs.Prelude.{◌≡◌, true, ℕ, ◌+◌, ◌≤◌, ◌<◌, length, get_or};
 ghost use Rattle.table.specs.Table.{first_word, rows_word, name_at};
 ghost use Rattle.table.specs.Rows.{row_named};

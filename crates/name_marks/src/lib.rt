@@ -1,4 +1,6 @@
 // Notes of a sheet's rows, in the words of its half behind the records: they spare a look at each row.
+#![tactic(auto)]
+
 ghost use Rattle.std.specs.Prelude.{◌≡◌, ◌+◌, ◌<◌, get_or, length};
 ghost use Rattle.table.specs.Table.{bytes_at};
 ghost use Rattle.table.specs.Words.{Reads};

@@ -1,4 +1,6 @@
 // The row of a type that has the name of a row of the other sheet. Rows that are likely to have it are looked at first.
+#![tactic(auto)]
+
 ghost use Rattle.std.specs.Prelude.{◌≡◌, ◌<◌};
 ghost use Rattle.table.specs.Table.{bytes_at, name_at, first_word, rows_word};
 ghost use Rattle.namesakes.specs.Named.{is_named, NamedIn};

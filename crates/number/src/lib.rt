@@ -1,25 +1,26 @@
 // One number: its forms, what bringing it into a range gives, and the kinds of exception.
+#![tactic(auto)]
 
 pub mod sign;
 
 use answer::Given;
 
 // A number from -2^63 to 2^64 - 1: an i64 where it was read from a signed place.
-#[derive(Drop)]
+#[derive(Clone, Copy)]
 pub enum Number {
     Signed(i64),
     Unsigned(u64),
 }
 
 // A number by its sign and its distance from 0, or from -1 where it is negative.
-#[derive(Drop)]
+#[derive(Clone, Copy)]
 pub struct Parts {
     pub negative: bool,
     pub distance: u64,
 }
 
 // A number brought into a range: its significant bits, the kind of exception, and the number that was given.
-#[derive(Drop)]
+#[derive(Clone, Copy)]
 pub struct Fitted {
     pub raw: u64,
     pub kind: u32,

@@ -1,4 +1,6 @@
 // One leaf that is no enum: what its number becomes, and where that is written.
+#![tactic(auto)]
+
 ghost use Rattle.std.specs.Prelude.{◌≡◌, ◌+◌, ◌^◌, ◌≤◌, ◌<◌, length};
 ghost use Rattle.layout.specs.Layout.{Valid};
 ghost use Rattle.number.specs.Number.{number_at, fitted};

@@ -1,4 +1,6 @@
 // How the program of the exercises prints a number written, read or converted, and what a setter answered, each beside its text.
+#![tactic(auto)]
+
 use bits::{BitAt, ByteAt, Order};
 use layout::{Class, Edited, Layout, Pad};
 use libc::STDOUT_FILENO;

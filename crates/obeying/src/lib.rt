@@ -1,4 +1,6 @@
 // Which handling the leaf at a byte of a type obeys.
+#![tactic(auto)]
+
 ghost use Rattle.std.specs.Prelude.{◌≡◌, false, List, ℕ, ◌<◌};
 ghost use Rattle.datatype.specs.Handling.{asked, handling_at};
 ghost use Rattle.table.specs.Table.{type_at};
@@ -15,7 +17,7 @@ use table::{
 };
 
 // One step down from a type at a byte: to an inner type at a byte of it, with the word of the member that leads there; or no member is met any more.
-#[derive(Drop)]
+#[derive(Clone, Copy)]
 pub enum Down {
     Go(usize, usize, Word),
     Ends,

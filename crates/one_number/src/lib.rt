@@ -1,4 +1,6 @@
 // Reads one number in a place of some bytes; and reads, fits and stores one.
+#![tactic(auto)]
+
 ghost use Rattle.std.specs.Prelude.{◌≡◌, ◌+◌, ◌≤◌, length};
 ghost use Rattle.layout.specs.Layout.{Valid};
 ghost use Rattle.number.specs.Place.{stored};

@@ -1,4 +1,6 @@
 // One record, by the plan's entries.
+#![tactic(auto)]
+
 ghost use Rattle.std.specs.Prelude.{◌≡◌, ℕ, ◌+◌, ◌*◌, ◌≤◌, ◌<◌, length, get_or};
 ghost use Rattle.records.specs.Record.{raises};
 ghost use Rattle.records.specs.Plan.{written, raised_by, first_by};

@@ -1,4 +1,6 @@
 // The four words by which the leaf of an entry is converted, for one pair of types, and the span of its enums.
+#![tactic(auto)]
+
 ghost use Rattle.std.specs.Prelude.{◌≡◌, cond, ◌&&◌, ◌+◌, ◌*◌, ◌≤◌, ◌<◌, eqb, length};
 ghost use Rattle.layout.specs.Layout.{Valid};
 ghost use Rattle.table.specs.Table.{class_word, layout_at};

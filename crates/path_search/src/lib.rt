@@ -1,4 +1,6 @@
 // Whether there is a path from a source type to a destination type.
+#![tactic(auto)]
+
 ghost use Rattle.std.specs.Prelude.{◌≡◌, List, ℕ};
 ghost use Rattle.datatype.specs.Paths.{has_path, paths_to};
 ghost use Rattle.datatype.specs.WellFormed.{WellFormed};

@@ -4,13 +4,15 @@
 // and one for each part without a match: the rest of a member whose name the source lacks, of a gap between members, or of a type that does not fit. Each of
 // these has a byte of its own, so they are at most 4,096. The members of a type do not overlap, so the question for a path meets at most 4,096 pairs of types
 // at a level.
+#![tactic(auto)]
+
 pub mod dimensions;
 pub mod leaf;
 pub mod numbers;
 pub mod types;
 
 // One step down from a type at a byte: to an inner type at a byte of it; here, where the type is a leaf that starts at the byte; or no leaf starts there.
-#[derive(Drop)]
+#[derive(Clone, Copy)]
 pub enum Step {
     Go(usize, usize),
     Here,
@@ -19,7 +21,7 @@ pub enum Step {
 
 // One step down from a source type and a destination type: on to inner types, so many bytes further in the source and at a byte of the destination's;
 // both are leaves; or no leaf is matched from here up to this byte of the destination type.
-#[derive(Drop)]
+#[derive(Clone, Copy)]
 pub enum Walk {
     On(usize, usize, usize, usize),
     Same,
@@ -28,14 +30,14 @@ pub enum Walk {
 
 // The match of a destination leaf: the source leaf's byte, the source leaf's type number and the destination leaf's; or how many bytes from here on have
 // no match.
-#[derive(Drop)]
+#[derive(Clone, Copy)]
 pub enum Pair {
     Matched(usize, usize, usize),
     Unmatched(usize),
 }
 
 // One step of the question whether there is a path: its answer, or the two types or the two lists of members that it depends on.
-#[derive(Drop)]
+#[derive(Clone, Copy)]
 pub enum Turn {
     Answer(bool),
     Bases(usize, usize),
@@ -43,7 +45,7 @@ pub enum Turn {
 }
 
 // The types of the source member and of the destination member of one name, or none where the source has no such member.
-#[derive(Drop)]
+#[derive(Clone, Copy)]
 pub enum Inner {
     Both(usize, usize),
     Neither,

@@ -1,4 +1,6 @@
 // Pieces of records that stay as they are: the same bytes of each record of a block, moved without a look at the numbers in them.
+#![tactic(auto)]
+
 ghost use Rattle.std.specs.Prelude.{◌≡◌, List, ℕ, ◌+◌, ◌*◌, ◌≤◌, ◌<◌, length, take, drop};
 ghost use Rattle.std.proofs.Math.Seq.{paste};
 ghost use Rattle.plans.specs.PlanWords.{entries_from, Ready};

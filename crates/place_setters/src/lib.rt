@@ -1,4 +1,6 @@
 // The setters of size and field: each takes a layout and arguments, and gives the answer and the layout after it.
+#![tactic(auto)]
+
 ghost use Rattle.std.specs.Prelude.{◌≡◌};
 ghost use Rattle.layout.specs.Setters.{set_size, set_field};
 

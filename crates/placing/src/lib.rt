@@ -1,4 +1,6 @@
 // The significant bits in a place of some bytes: read, and written with the pads beside them.
+#![tactic(auto)]
+
 ghost use Rattle.std.specs.Prelude.{◌≡◌, ◌+◌, ◌*◌, ◌^◌, ◌≤◌, ◌<◌, length};
 ghost use Rattle.layout.specs.Layout.{Valid};
 ghost use Rattle.number.specs.Place.{padded, filled, raw_at, stored};

@@ -1,4 +1,6 @@
 // The plan of a call on two sheets: its entries, their words, and the ids of names where they are wanted.
+#![tactic(auto)]
+
 ghost use Rattle.std.specs.Prelude.{length};
 ghost use Rattle.datatype.specs.Datatype.{Datatype};
 ghost use Rattle.table.specs.Table.{type_at};

@@ -1,4 +1,6 @@
 // The equal parts of the records of a plan that repeats.
+#![tactic(auto)]
+
 ghost use Rattle.std.specs.Prelude.{◌≡◌, true, List, ℕ, ◌+◌, ◌*◌, ◌/◌, ◌≤◌, length};
 ghost use Rattle.plans.specs.PlanWords.{Ready};
 ghost use Rattle.block_parts.specs.Parts.{SameWords, InParts};

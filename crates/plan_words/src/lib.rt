@@ -1,4 +1,6 @@
 // The entries of a plan, read from its words.
+#![tactic(auto)]
+
 ghost use Rattle.std.specs.Prelude.{◌≡◌, ◌+◌, ◌*◌, ◌≤◌, ◌<◌, length};
 ghost use Rattle.plans.specs.PlanEntries.{words_at};
 

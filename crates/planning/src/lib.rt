@@ -1,4 +1,6 @@
 // The plan of a call: the matched leaves in byte order, two words each.
+#![tactic(auto)]
+
 ghost use Rattle.std.specs.Prelude.{◌≡◌, ◌+◌, ◌*◌, ◌≤◌, ◌<◌, length};
 ghost use Rattle.datatype.specs.Datatype.{Datatype, size};
 ghost use Rattle.datatype.specs.WellFormed.{WellFormed};

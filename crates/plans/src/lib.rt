@@ -1,4 +1,6 @@
 // The plan of a call in words, and what the code that goes by it promises.
+#![tactic(auto)]
+
 use answer::Given;
 
 // An entry of the plan is two words: the destination's byte and the source's byte, by this factor, and the source leaf's type number and the destination leaf's.
@@ -12,7 +14,7 @@ pub const NAMES: usize = 512;
 pub const ENTRY_WORDS: usize = 4;
 
 // One entry of the plan.
-#[derive(Drop)]
+#[derive(Clone, Copy)]
 pub struct PlanEntry {
     pub to: usize,
     pub from: usize,
@@ -21,14 +23,14 @@ pub struct PlanEntry {
 }
 
 // A row of an enum as significant bits, and the kind of exception.
-#[derive(Drop)]
+#[derive(Clone, Copy)]
 pub struct Coded {
     pub raw: u64,
     pub kind: u32,
 }
 
 // The first leaf of a record that raises an exception: its byte of the destination record, the kind, and the number that was given.
-#[derive(Drop)]
+#[derive(Clone, Copy)]
 pub enum Raising {
     At(u32, u32, Given),
     Nowhere,

@@ -1,4 +1,6 @@
 // Which bits of a source record a conversion can turn on, as a whole call: checks in their order, the working table, the mask.
+#![tactic(auto)]
+
 ghost use Rattle.std.specs.Prelude.{◌≡◌, length};
 ghost use Rattle.table.specs.Table.{type_at};
 ghost use Rattle.two_sheets.specs.TwoSheets.{ReadAs, Both};

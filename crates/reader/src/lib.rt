@@ -1,5 +1,7 @@
 // A reader that holds a sheet and its place in it, and hands out one line at a time. The functions over the struct are thin: each takes it apart and calls
 // a function of the sheet and the place.
+#![tactic(auto)]
+
 ghost use Rattle.std.specs.Prelude.{◌≡◌};
 ghost use Rattle.reader.specs.Lines.{line_from, line_numbered, place_after};
 

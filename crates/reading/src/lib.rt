@@ -1,4 +1,6 @@
 // A whole sheet, line by line, into its half of the table.
+#![tactic(auto)]
+
 ghost use Rattle.std.specs.Prelude.{◌≡◌, true, ◌≤◌, length};
 ghost use Rattle.line.specs.Read.{next_after, names_within};
 ghost use Rattle.table.specs.Table.{Holds};

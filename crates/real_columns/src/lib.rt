@@ -1,4 +1,6 @@
 // The same leaf of a block of records on its way between a real and another leaf: loaded, made and stored.
+#![tactic(auto)]
+
 ghost use Rattle.std.specs.Prelude.{◌≡◌, ℕ, ◌+◌, ◌-◌, ◌*◌, ◌/◌, ◌^◌, ◌<◌, ◌≤◌, true, false, length, bit_and, slice_index};
 ghost use Rattle.layout.specs.Layout.{Valid};
 ghost use Rattle.records.specs.Record.{raises};

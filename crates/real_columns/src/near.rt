@@ -30,7 +30,7 @@ const FIRST_SHIFTED: u64 = 1012;
 const MOST_SHIFTED: u32 = 63;
 
 // An int's significant bits, and 1 where it raises an exception.
-#[derive(Drop)]
+#[derive(Clone, Copy)]
 pub struct NearInt {
     pub raw: u64,
     pub raised: u64,

@@ -1,4 +1,6 @@
 // A real, an IEEE 754 binary64 by its 64 bits, against a whole number, by exact worth.
+#![tactic(auto)]
+
 ghost use Rattle.std.specs.Prelude.{◌≡◌, true, ◌&&◌, ◌||◌, ◌^◌, ◌<◌, eqb};
 ghost use Rattle.std.specs.Bool.{beq};
 ghost use Rattle.number.specs.Parts.{meaning, signed_by};

@@ -27,7 +27,7 @@ const EXPONENT_OF_2_TO_63: u64 = 1086;
 
 // What is left of a real without its fraction. Beyond: an infinity, or a magnitude of 2^64 or more; negative or not.
 // Whole: negative or not, the magnitude, and whether a fraction was dropped.
-#[derive(Drop)]
+#[derive(Clone, Copy)]
 pub enum Cut {
     NotANumber,
     Beyond(bool),

@@ -1,4 +1,6 @@
 // A real, an IEEE 754 binary64 by its 64 bits: from a number, and to one in a layout's range.
+#![tactic(auto)]
+
 ghost use Rattle.std.specs.Prelude.{◌≡◌, ◌^◌, ◌<◌};
 ghost use Rattle.layout.specs.Layout.{Valid};
 ghost use Rattle.number.specs.Parts.{meaning};

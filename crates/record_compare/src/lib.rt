@@ -1,4 +1,6 @@
 // One record of two logs, by the plan's entries: the length of its lines, and the lines themselves.
+#![tactic(auto)]
+
 ghost use Rattle.std.specs.Prelude.{◌≡◌, ◌+◌, ◌≤◌, length};
 ghost use Rattle.text.specs.Written.{Wrote};
 ghost use Rattle.comparing.specs.Comparing.{EntryFormed, EntriesFormed, entry_text, record_text};

@@ -1,4 +1,6 @@
 // The size of one record of a sheet's type.
+#![tactic(auto)]
+
 ghost use Rattle.std.specs.Prelude.{◌≡◌, length};
 ghost use Rattle.runs.specs.Run.{table_after};
 ghost use Rattle.sheet.specs.Sheet.{sheet_of};

@@ -1,4 +1,6 @@
 // Whole calls that are refused, by each number from 1 HANDLING to 6 COUNT.
+#![tactic(auto)]
+
 use convert::{convert_copying, convert_in_place};
 use shown::{show, show_answer, show_bytes};
 

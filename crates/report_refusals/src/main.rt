@@ -1,4 +1,6 @@
 // Calls of the report that are refused, by each number.
+#![tactic(auto)]
+
 use report::report;
 use shown::{show, show_answer, show_bytes};
 

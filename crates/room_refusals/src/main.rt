@@ -1,4 +1,6 @@
 // Whole calls that are refused with 7 ROOM, and one of no records, which is done.
+#![tactic(auto)]
+
 use convert::{convert_copying, convert_in_place, convert_in_place_plain};
 use shown::{show, show_answer, show_bytes};
 

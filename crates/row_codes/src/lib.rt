@@ -1,4 +1,6 @@
 // Rows of enums in one word, 0 for none: found by a span or by ids of names, and turned into significant bits.
+#![tactic(auto)]
+
 ghost use Rattle.std.specs.Prelude.{◌≡◌, ◌+◌, ◌*◌, ◌-◌, ◌≤◌, ◌<◌, length, get_or};
 ghost use Rattle.number.specs.Number.{bits_of};
 ghost use Rattle.number.specs.Parts.{signed_by};

@@ -1,4 +1,6 @@
 // The lines of an enum and a compound with their values and members, from behind their first word.
+#![tactic(auto)]
+
 ghost use Rattle.line.specs.Line.{enum_line_of, value_line_of, compound_line_of, member_line_of};
 ghost use Rattle.line.specs.Read.{Reads, columns_reading, plain_line};
 

@@ -1,4 +1,6 @@
 // Rows looked up by their name and by their value's number, the newest first.
+#![tactic(auto)]
+
 ghost use Rattle.std.specs.Prelude.{◌≡◌, ◌<◌};
 ghost use Rattle.number.specs.Parts.{signed_by};
 ghost use Rattle.datatype.specs.Symbols.{same_number};

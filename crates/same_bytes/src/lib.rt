@@ -1,4 +1,6 @@
 // Leaves whose bytes stay as they are, and runs of entries with such leaves that adjoin in both records.
+#![tactic(auto)]
+
 ghost use Rattle.std.specs.Prelude.{◌≡◌, true, false, ◌+◌, ◌*◌, ◌≤◌, ◌<◌, length};
 ghost use Rattle.table.specs.Table.{type_word, class_word};
 ghost use Rattle.plans.specs.PlanWords.{one_real, to_byte, from_byte};
@@ -11,7 +13,7 @@ use table::read::type_word;
 use table::{CLASS, ENUM, OFFSET, ORDER, PRECISION, REAL, SIGN, SIZE};
 
 // So many entries from one on, whose leaves have so many bytes.
-#[derive(Drop)]
+#[derive(Clone, Copy)]
 pub struct Run {
     pub entries: usize,
     pub bytes: usize,

@@ -1,4 +1,6 @@
 // The first exception over n records, for a call that stops at one.
+#![tactic(auto)]
+
 ghost use Rattle.std.specs.Prelude.{◌≡◌, ℕ, ◌*◌, ◌≤◌, length};
 ghost use Rattle.records.specs.Plan.{plan_of};
 ghost use Rattle.plans.specs.PlanWords.{Job};

@@ -1,4 +1,6 @@
 // A worked season: three logs of two source sheets and one of no records, each added to one report; and a log with a double, beside a reader's double.
+#![tactic(auto)]
+
 use answer::Answer;
 use libc::STDOUT_FILENO;
 use report::report;

@@ -1,4 +1,6 @@
 // What the setters share: numbers compared, a layout with some fields changed, and the answer beside it.
+#![tactic(auto)]
+
 ghost use Rattle.std.specs.Prelude.{◌≡◌, min, max};
 ghost use Rattle.layout.specs.Setters.{edited, resized, bytes_for};
 

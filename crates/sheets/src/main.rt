@@ -1,4 +1,6 @@
 // Reads each sheet that the file `index` names, and prints a line for it: that it reads, or its first faulty line.
+#![tactic(auto)]
+
 ghost use Rattle.std.specs.Prelude.{◌<◌, length};
 
 use libc::STDOUT_FILENO;

@@ -1,4 +1,6 @@
 // How the programs of whole calls print one: a name, the answer's number, its count, line, record, byte and kind, the number that was given, and the bytes of the buffer that was written.
+#![tactic(auto)]
+
 use answer::{Answer, number_of, values_of};
 use libc::STDOUT_FILENO;
 

@@ -1,4 +1,6 @@
 // Signed numbers in decimal: their length, and their bytes at a place.
+#![tactic(auto)]
+
 ghost use Rattle.std.specs.Prelude.{◌≡◌, ◌+◌, ◌≤◌, ◌^◌, length, nat_abs};
 ghost use Rattle.text.specs.Field.{signed_of};
 ghost use Rattle.text.specs.Written.{Wrote};

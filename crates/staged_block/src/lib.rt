@@ -1,4 +1,6 @@
 // A block of records in place: through the staging record, over their background.
+#![tactic(auto)]
+
 ghost use Rattle.std.specs.Prelude.{◌≡◌, true, cond, List, ◌++◌, ℕ, ◌+◌, ◌-◌, ◌*◌, ◌/◌, ◌≤◌, length, take, drop};
 ghost use borrow.Rule.Slice.PartMut.{put_mid};
 ghost use Rattle.plans.specs.PlanWords.{Ready, entries_of};

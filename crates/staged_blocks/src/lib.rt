@@ -1,4 +1,6 @@
 // Records in place, block after block from the first of them on.
+#![tactic(auto)]
+
 ghost use Rattle.std.specs.Prelude.{◌≡◌, true, List, ℕ, ◌+◌, ◌*◌, ◌/◌, ◌-◌, ◌≤◌, ◌<◌, length, take, drop};
 ghost use Rattle.plans.specs.PlanWords.{Ready, entries_of};
 ghost use Rattle.loops.specs.Steps.{put};

@@ -1,4 +1,6 @@
 // Whole calls that are refused with 8 STOP, which names the number that was given.
+#![tactic(auto)]
+
 use convert::{convert_copying, convert_copying_plain, convert_in_place, convert_in_place_plain};
 use shown::{show, show_answer, show_bytes};
 

@@ -1,4 +1,6 @@
 // The setters of order, pads and sign: each takes a layout and an argument, and gives the answer and the layout after it.
+#![tactic(auto)]
+
 ghost use Rattle.std.specs.Prelude.{◌≡◌};
 ghost use Rattle.layout.specs.Setters.{is_int};
 ghost use Rattle.layout.specs.Setters.{set_order, set_pads, set_sign};

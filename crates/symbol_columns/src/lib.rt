@@ -1,4 +1,6 @@
 // Columns of enums: numbers of the source become those of the destination by the table of the two, without a branch on data.
+#![tactic(auto)]
+
 ghost use Rattle.std.specs.Prelude.{◌≡◌, ℕ, ◌+◌, ◌-◌, ◌*◌, ◌/◌, ◌^◌, ◌<◌, ◌≤◌, ◌&&◌, length, if◌then◌else◌, bit_and, nat_eq, nat_le, nat_lt, slice_index};
 ghost use Rattle.column_words.specs.Words.{Fits};
 ghost use Rattle.blocks.specs.Blocks.{sum_to};

@@ -1,4 +1,6 @@
 // Whole calls that are refused with 12 SYMBOLS, and what comes before it, and calls that it does not refuse.
+#![tactic(auto)]
+
 use convert::{convert_copying, convert_in_place_plain};
 use shown::{show, show_answer, show_bytes};
 

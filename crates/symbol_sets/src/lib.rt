@@ -2,6 +2,8 @@
 // What bounds the work: without an enum in the destination there is nothing to look at. Else the walk meets no other pairs of types than the question for a path
 // does, and looks up no name for a member that is an int, bits or a real. The symbols of two enums are looked up once, however often the pair occurs: in a table
 // that the reader of sheets made, these are at most 256 by 258 comparisons of names.
+#![tactic(auto)]
+
 ghost use Rattle.std.specs.Prelude.{◌≡◌, ◌<◌};
 ghost use Rattle.datatype.specs.SymbolSets.{keeps_symbols, keeps_in};
 ghost use Rattle.datatype.specs.WellFormed.{WellFormed};

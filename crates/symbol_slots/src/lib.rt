@@ -1,4 +1,6 @@
 // The tables of the pairs of enums that a plan has, side by side.
+#![tactic(auto)]
+
 ghost use Rattle.std.specs.Prelude.{◌≡◌, true, ℕ, ◌+◌, ◌*◌, ◌≤◌, ◌<◌, length, get_or, replicate};
 ghost use Rattle.entry_code.specs.Code.{route_in};
 ghost use Rattle.plans.specs.PlanWords.{words_place, source_type_of, destination_type_of, Pair, Ready};

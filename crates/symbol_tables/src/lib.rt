@@ -1,4 +1,6 @@
 // The table of a pair of enums, which is kept until another pair needs it: by the span of which the plan's words tell, or by halves of the bits of the source's symbols.
+#![tactic(auto)]
+
 ghost use Rattle.std.specs.Prelude.{◌≡◌, true, ℕ, ◌+◌, ◌*◌, ◌^◌, ◌≤◌, ◌<◌, length, get_or};
 ghost use Rattle.layout.specs.Layout.{Valid};
 ghost use Rattle.table.specs.Table.{first_word, layout_at};

@@ -1,5 +1,7 @@
 // The working table's records of types and rows: read, looked up, made and stored.
 // The table's words, and those of the half that holds one sheet.
+#![tactic(auto)]
+
 pub const TABLE: usize = 8192;
 
 pub const HALF: usize = 4096;
@@ -84,7 +86,7 @@ pub mod read;
 pub mod store;
 
 // A row's number, or none.
-#[derive(Drop)]
+#[derive(Clone, Copy)]
 pub enum Found {
     At(usize),
     Missing,

@@ -1,4 +1,6 @@
 // The records of types and rows, as they are stored. Each type's record has the number of its first row, also where it has no rows.
+#![tactic(auto)]
+
 ghost use Rattle.std.specs.Prelude.{◌≡◌, ◌<◌};
 ghost use Rattle.table.specs.Records.{layout_record, atomic_record, real_record, enum_record, compound_record, array_record, value_record, member_record};
 

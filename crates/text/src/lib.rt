@@ -1,23 +1,25 @@
 // Text as bytes: its lines, its fields and what they say, numbers in decimal, bytes written to a place. The code reads words and names at a place.
+#![tactic(auto)]
+
 ghost use Rattle.std.specs.Prelude.{◌≡◌, ◌<◌};
 ghost use Rattle.text.specs.Place.{ends_field, field_at, field_end, byte_at, tab_at, newline_at, name_at, same_bytes};
 
 // The number of a field, and where the field ends.
-#[derive(Drop)]
+#[derive(Clone, Copy)]
 pub enum Field {
     Number(u32, usize),
     Fault,
 }
 
 // Where the field of a name ends.
-#[derive(Drop)]
+#[derive(Clone, Copy)]
 pub enum Name {
     Text(usize),
     Fault,
 }
 
 // An enum's number: whether it is negative, its distance from 0, or from -1 where it is negative, and where its field ends.
-#[derive(Drop)]
+#[derive(Clone, Copy)]
 pub enum Whole {
     Number(bool, u64, usize),
     Fault,

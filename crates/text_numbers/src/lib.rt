@@ -1,4 +1,6 @@
 // Numbers in the fields of a text, read at a place.
+#![tactic(auto)]
+
 ghost use Rattle.std.specs.Prelude.{◌≡◌, ◌≤◌};
 ghost use Rattle.text.specs.Place.{number_at, whole_at};
 ghost use Rattle.text_numbers.specs.Limited.{decimal_at};
@@ -6,7 +8,7 @@ ghost use Rattle.text_numbers.specs.Limited.{decimal_at};
 use text::{Field, Whole, field_end, is_byte};
 
 // A decimal number, and where its field ends.
-#[derive(Drop)]
+#[derive(Clone, Copy)]
 enum Decimal {
     Value(u64, usize),
     Fault,

@@ -1,4 +1,6 @@
 // Both sheets read, each into its half of the table.
+#![tactic(auto)]
+
 ghost use Rattle.std.specs.Prelude.{◌≡◌, length};
 ghost use Rattle.two_sheets.specs.TwoSheets.{SourceRead, SheetsRead};
 
@@ -7,7 +9,7 @@ use sheet_steps::SheetRead;
 use table::HALF;
 
 // Two sheets read into the table: their type numbers; or the first faulty line of the first faulty one.
-#[derive(Drop)]
+#[derive(Clone, Copy)]
 pub enum Sheets {
     Types(usize, usize),
     Source(u32),

@@ -1,4 +1,6 @@
 // Which pairs of layouts are moved at once, and their loops by the sizes of the two containers.
+#![tactic(auto)]
+
 ghost use Rattle.std.specs.Prelude.{◌≡◌, true, ◌+◌, ◌-◌, ◌*◌, ◌^◌, ◌≤◌, length};
 ghost use Rattle.column_words.specs.Words.{Fits};
 ghost use Rattle.blocks.specs.Blocks.{each_made};

@@ -1,4 +1,6 @@
 // Records that stay as they are.
+#![tactic(auto)]
+
 ghost use Rattle.std.specs.Prelude.{◌≡◌, true, ◌*◌, ◌≤◌, length};
 ghost use Rattle.whole_copies.specs.Whole.{WholeCopy};
 

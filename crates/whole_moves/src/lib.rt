@@ -1,4 +1,6 @@
 // The same leaf of a block of records between two numbers of whole bytes that is always in range: moved from the source's bytes to the destination's in one loop, without an array between.
+#![tactic(auto)]
+
 ghost use Rattle.std.specs.Prelude.{◌≡◌, ◌+◌, ◌*◌, ◌≤◌, length};
 ghost use Rattle.blocks.specs.Blocks.{each_made};
 ghost use Rattle.whole_moves.specs.Whole.{moved_by, Whole};

@@ -1,4 +1,6 @@
 // Result records of which each byte is written, whatever was there.
+#![tactic(auto)]
+
 ghost use Rattle.std.specs.Prelude.{◌≡◌, true, ◌*◌, ◌≤◌, ◌<◌, length};
 ghost use Rattle.whole_writes.specs.Writes.{Anew, WritesEach};
 

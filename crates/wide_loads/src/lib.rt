@@ -1,4 +1,6 @@
 // A column is loaded as in `column_loads`, into numbers of 64 bits.
+#![tactic(auto)]
+
 ghost use Rattle.std.specs.Prelude.{◌≡◌, ℕ, ◌+◌, ◌*◌, ◌^◌, ◌≤◌, ◌<◌, length, get_or};
 ghost use Rattle.blocks.specs.Blocks.{container_in};
 

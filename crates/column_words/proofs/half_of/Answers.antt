@@ -1,0 +1,11 @@
+-- `column_words::half_of` meets its contract. Assumes nothing.
+use Rattle.column_words.proofs.Parts.{half_signed, half_plain}
+use Rattle.column_words.proofs.half_of.Goals as goal
+
+pub returns-then-signed : goal.returns-then-signed
+returns-then-signed c =
+    let a = c.args in
+    half_signed a.signed a.p c.if-signed.true c.requires.0 c.pow2.ensures
+
+pub returns-else-signed : goal.returns-else-signed
+returns-else-signed c = half_plain c.args.signed c.args.p c.if-signed.false

@@ -1,0 +1,12 @@
+-- `table::store::put` meets its contract. The invariant: q words of r are stored. Assumes nothing.
+use Prim.Native.Nat.{◌-◌, ◌≤◌}
+use mathlib.Core.Path.{◌≡◌}
+use lib.ListN.{length}
+use lib.Seq.{paste}
+use Rattle.table.proofs.store.put.Given as goal
+
+abbrev pub invariant-loop-q : goal.invariant-loop-q
+invariant-loop-q l = (l.half ≡ paste l.initial.half l.place l.r l.q) × (l.q ≤ length l.r) × (length l.half ≡ length l.initial.half)
+
+abbrev pub decreases-loop-q : goal.decreases-loop-q
+decreases-loop-q l = length l.r - l.q
