@@ -115,17 +115,17 @@ module _ (t : RefusalTable) (row : t.Row) {later : List t.Row} where
 -- ---- one row is the first
 
 module _ {Row : Type 0} (Given : Row → Type 0) where
-  pub one_row : {rows : List Row} {a b : Row} → First Given a rows → First Given b rows → a ≡ b
+  pub one_row : {a : Row} {rows : List Row} {b : Row} → First Given a rows → First Given b rows → a ≡ b
   one_row (here g) (here h) = refl
   one_row (here g) (behind n q) = absurd (n g)
   one_row (behind n p) (here h) = absurd (n h)
   one_row (behind n p) (behind m q) = one_row p q
 
-  first_is_given : {rows : List Row} {row : Row} → First Given row rows → Given row
+  first_is_given : {row : Row} {rows : List Row} → First Given row rows → Given row
   first_is_given (here g) = g
   first_is_given (behind n p) = first_is_given p
 
-none_first : (t : RefusalTable) {rows : List t.Row} {row : t.Row} → First t.Given row rows → ¬ (None t rows)
+none_first : (t : RefusalTable) {row : t.Row} {rows : List t.Row} → First t.Given row rows → ¬ (None t rows)
 none_first t (here g) n = n.0 g
 none_first t (behind m p) n = none_first t p n.1
 

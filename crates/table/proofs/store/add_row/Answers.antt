@@ -10,4 +10,4 @@ pub returns : goal.returns
 unfolding row_added
 returns c =
     c.put_rows_word.ensures
-    ∙ ap₂ (λ (x : List ℕ) (n : ℕ). set x (16 * c.before.args.type-number + 10) (n + 1)) c.put_row.ensures c.type_word-rows.ensures.is
+    ∙ ap₂ (λ (x : List ℕ) (n : ℕ). set x (16 * c.args.type_number + 10) (n + 1)) c.put_row.ensures c.type_word-rows.ensures.is

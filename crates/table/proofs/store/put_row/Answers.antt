@@ -9,5 +9,5 @@ use Rattle.table.proofs.store.put_row.Goals as goal
 pub returns : goal.returns
 returns c =
     let a = c.args in
-    let e : length a.t3 ≡ 8 = search rules in
-    c.put.ensures ∙ ap (λ (k : ℕ). paste a.half.now (1024 + 8 * a.row) a.t3 k) e
+    let e : length a.r ≡ 8 = search rules in
+    c.put.ensures ∙ ap (λ (k : ℕ). paste a.half.now (1024 + 8 * a.row) a.r k) e

@@ -9,5 +9,5 @@ use Rattle.table.proofs.store.put_type.Goals as goal
 pub returns : goal.returns
 returns c =
     let a = c.args in
-    let e : length a.t3 ≡ 16 = search rules in
-    c.put.ensures ∙ ap (λ (k : ℕ). paste a.half.now (16 * a.type_number) a.t3 k) e
+    let e : length a.r ≡ 16 = search rules in
+    c.put.ensures ∙ ap (λ (k : ℕ). paste a.half.now (16 * a.type_number) a.r k) e
