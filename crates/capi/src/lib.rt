@@ -3,8 +3,8 @@
 
 ghost use Rattle.std.specs.Prelude.{length};
 ghost use Rattle.runs.specs.Run.{copying_run, in_place_run, plain};
-ghost use Rattle.leaves.specs.Call.{answer_of as listAnswerOf, list_after};
-ghost use Rattle.record_size.specs.RecordSize.{answer_of as sizeAnswerOf};
+ghost use Rattle.leaves.specs.Call.{answer_of as list_answer_of, list_after};
+ghost use Rattle.record_size.specs.RecordSize.{answer_of as size_answer_of};
 ghost use Rattle.capi.specs.Calls.{Answered, Called, Converts, Reported, Compared, Reached};
 
 use answer_words::give;
@@ -119,7 +119,7 @@ pub extern "C" fn yirvagul_leaf_list(
     table: &mut [u32],
     words: &mut [u64; 8],
 ) -> u32
-    ensures { Called (listAnswerOf sheet.now (length list.old) (length table.old)) (list_after sheet.now list.old (length table.old)) table.old result words.new list.new table.new }
+    ensures { Called (list_answer_of sheet.now (length list.old) (length table.old)) (list_after sheet.now list.old (length table.old)) table.old result words.new list.new table.new }
 {
     let a = leaves::leaf_list(sheet, list, table);
     give(a, words)
@@ -128,7 +128,7 @@ pub extern "C" fn yirvagul_leaf_list(
 // Answers the size of one record of a sheet's type.
 #[unsafe(no_mangle)]
 pub extern "C" fn yirvagul_record_size(sheet: &[u8], table: &mut [u32], words: &mut [u64; 8]) -> u32
-    ensures { Answered (sizeAnswerOf sheet.now (length table.old)) table.old result words.new table.new }
+    ensures { Answered (size_answer_of sheet.now (length table.old)) table.old result words.new table.new }
 {
     let a = record_size::record_size(sheet, table);
     give(a, words)

@@ -33,7 +33,7 @@ use Rattle.loops.specs.declared.Stop.TheVariants.{At, Nowhere}
 use Rattle.loops.specs.Stops as stops
 use Rattle.loops.specs.Stops.{stop_by}
 use Rattle.runs.specs.Run.{Form, Checked, handled, target, result, if_done, has_room, stop_from, record_checks, type_checks, sheet_checks}
-use Rattle.runs.specs.Run.Form.{copying, inPlace}
+use Rattle.runs.specs.Run.Form.{copying, in_place}
 use Rattle.runs.specs.Run.Checked.{refused, passed}
 use Rattle.conversion.specs.Call.{Leaves, Decided}
 use Rattle.runs.proofs.Exceptions.{clamped_handled}
@@ -159,10 +159,10 @@ module _ (n S D x y : ℕ) where
   greater : (n * S ≤ n * max S D) × (n * D ≤ n * max S D)
   greater = (mul-le-mul_left n (omega arith), mul-le-mul_left n (omega arith))
 
-  pub in_place_short : x < n * S → has_room inPlace n S D x y ≡ false
+  pub in_place_short : x < n * S → has_room in_place n S D x y ≡ false
   in_place_short h = rw (lt-leb (n * max S D) x (omega (arith, greater.0))) refl
 
-  pub in_place_grown : x < n * D → has_room inPlace n S D x y ≡ false
+  pub in_place_grown : x < n * D → has_room in_place n S D x y ≡ false
   in_place_grown h = rw (lt-leb (n * max S D) x (omega (arith, greater.1))) refl
 
   fits : n * S ≤ x → n * D ≤ x → n * max S D ≤ x
@@ -178,10 +178,10 @@ module _ (n S D x y : ℕ) where
           let m : max S D ≡ S = omega arith in
           rw m g
 
-  pub in_place_small : n * S ≤ x → n * D ≤ x → y < n * D → has_room inPlace n S D x y ≡ false
+  pub in_place_small : n * S ≤ x → n * D ≤ x → y < n * D → has_room in_place n S D x y ≡ false
   in_place_small g h b = rw (le-leb (n * max S D) x (fits g h), lt-leb (n * D) y b) refl
 
-  pub in_place_room : n * S ≤ x → n * D ≤ x → n * D ≤ y → has_room inPlace n S D x y ≡ true
+  pub in_place_room : n * S ≤ x → n * D ≤ x → n * D ≤ y → has_room in_place n S D x y ≡ true
   in_place_room g h b = rw (le-leb (n * max S D) x (fits g h), le-leb (n * D) y b) refl
 
 -- ---- a test that was negated

@@ -8,7 +8,7 @@ use Rattle.table.specs.Table.{type_at}
 use Rattle.records.specs.Records.{readings, exceptions}
 use Rattle.two_sheets.specs.TwoSheets.{first, second, Both}
 use Rattle.runs.specs.Run.{Form, Checked, on_checked, handled, target, result, if_done, record_checks, type_checks, sheet_checks}
-use Rattle.runs.specs.Run.Form.{copying, inPlace}
+use Rattle.runs.specs.Run.Form.{copying, in_place}
 use Rattle.runs.specs.Run.Checked.{refused, passed}
 use Rattle.conversion.specs.declared.Checks.{Checks}
 use Rattle.conversion.specs.declared.Checks.TheVariants.{Refuse, Pass}
@@ -33,7 +33,7 @@ pub record Leaves (form : Form) (handling n : ℕ) (source background : List ℕ
 
 abbrev pub form_of : Bool → Form
 form_of false = copying
-form_of true = inPlace
+form_of true = in_place
 
 abbrev pub source_of : {A : Type 0} → Bool → A → A → A
 source_of false out other = other

@@ -14,7 +14,7 @@ use Rattle.records.specs.Leaf.{number_in}
 use Rattle.records.proofs.ManyRecords.{same_record}
 use Rattle.runs.specs.Run.{Run, Form, has_room, target, after}
 use Rattle.runs.specs.Run as runs
-use Rattle.runs.specs.Run.Form.{copying, inPlace}
+use Rattle.runs.specs.Run.Form.{copying, in_place}
 use Rattle.runs.specs.Run.Checked.{passed}
 use Rattle.runs.proofs.Checks.{passed_tells, room_behind, room_in_place}
 use Rattle.promises.specs.Runs.{DoneWithoutException, Types}
@@ -28,11 +28,11 @@ use Rattle.difference_promises.proofs.Kept.{answer_passed, list_passed}
 -- where a run passed, its source has room for the records that it reads, and the buffer that it writes for those that it makes
 source_room : (form : Form) (n s d x y : ℕ) → has_room form n s d x y ≡ true → n * s ≤ x
 source_room copying n s d x y e = leb-true (n * s) x (and_true (leb (n * s) x) (leb (n * d) y) e).0
-source_room inPlace n s d x y e = (room_in_place n s d x y e).0
+source_room in_place n s d x y e = (room_in_place n s d x y e).0
 
 target_room : (form : Form) (n s d : ℕ) (x y : List ℕ) → has_room form n s d (length x) (length y) ≡ true → n * d ≤ length (target form x y)
 target_room copying n s d x y e = room_behind copying n s d (length x) (length y) e
-target_room inPlace n s d x y e = (room_in_place n s d (length x) (length y) e).1
+target_room in_place n s d x y e = (room_in_place n s d (length x) (length y) e).1
 
 module _ (r : Run) (S D : Datatype) (t : Types r S D) (d : DoneWithoutException r) (c : Call) (o : AgainstOwn S D r c) where
   run_passed : runs.checks r ≡ passed S D

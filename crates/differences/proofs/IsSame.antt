@@ -11,7 +11,7 @@ use lib.IntN.{ℤ, pos, negsuc}
 use lib.Pow.{pow_pos}
 use borrow.Author.Tests.{eqb-true, eq-eqb}
 use Rattle.reals.specs.Worth.{quanta_per_one, Worth, worth}
-use Rattle.reals.specs.Worth.Worth.{notANumber, infinite, finite}
+use Rattle.reals.specs.Worth.Worth.{not_a_number, infinite, finite}
 use Rattle.reals.specs.Compare.{is_worth}
 use Rattle.datatype.specs.Datatype.{Symbol, Leaf, Datatype, same}
 use Rattle.datatype.specs.Datatype.Leaf.{atomic, enumeration, real}
@@ -98,7 +98,7 @@ not_zero : (n d : ℕ) → 0 < d → ¬ (suc n * d ≡ 0)
 not_zero n d h e = omega (arith, h, e)
 
 pub worth_same : (v : Worth) (z : ℤ) → is_worth v z ≡ true ↔ IsWorth v z
-worth_same notANumber z = (λ e. false≢true e, λ e. absurd e)
+worth_same not_a_number z = (λ e. false≢true e, λ e. absurd e)
 worth_same (infinite s) z = (λ e. false≢true e, λ e. absurd e)
 worth_same (finite s m) (pos n) = (to, from)
   where

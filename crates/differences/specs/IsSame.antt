@@ -3,7 +3,7 @@
 use Rattle.std.specs.Prelude.{◌≡◌, ◌⊎◌, true, false, List, [], ℕ, suc, ◌*◌, ℤ, pos, negsuc}
 use Rattle.std.proofs.Math.Option.{none, some}
 use Rattle.reals.specs.Worth.{quanta_per_one, Worth, worth}
-use Rattle.reals.specs.Worth.Worth.{notANumber, infinite, finite}
+use Rattle.reals.specs.Worth.Worth.{not_a_number, infinite, finite}
 use Rattle.datatype.specs.Datatype.{Symbol, Leaf}
 use Rattle.datatype.specs.Datatype.Leaf.{atomic, enumeration, real}
 use Rattle.datatype.specs.Symbols.{symbol_of}
@@ -20,7 +20,7 @@ OneUnnamed ss ts z w = (symbol_of z ss ≡ none) × (symbol_of w ts ≡ none) ×
 -- A double is worth the whole number z, exactly, counted in quanta of the doubles: from 0 up, with no minus unless it is 0 ("−0.0 equals the int 0"); below 0, with
 -- one. A not-a-number and an infinity are worth no number.
 abbrev pub IsWorth : Worth → ℤ → Type 0
-IsWorth notANumber z = ⊥
+IsWorth not_a_number z = ⊥
 IsWorth (infinite minus) z = ⊥
 IsWorth (finite minus quanta) (pos n) = (quanta ≡ n * quanta_per_one) × ((minus ≡ false) ⊎ (quanta ≡ 0))
 IsWorth (finite minus quanta) (negsuc n) = (quanta ≡ suc n * quanta_per_one) × (minus ≡ true)

@@ -1,6 +1,6 @@
 // Each setter edits a layout's eight words where they lie.
 ghost use Rattle.std.specs.Prelude.{◌≡◌, true, ◌&&◌, ◌<◌, ◌^◌, leb};
-ghost use Rattle.layout.specs.Setters.Edit.{size as ofSize, field as ofField, order as ofOrder, pads as ofPads, sign as ofSign};
+ghost use Rattle.layout.specs.Setters.Edit.{size as of_size, field as of_field, order as of_order, pads as of_pads, sign as of_sign};
 ghost use Rattle.layout_words.specs.Codes.{order_of, pad_of, sign_of, outcome, setter_call};
 
 use crate::{BE, KEEP, SIGNED, both, is_coded, layout_of, layout_words, order_of, pad_of};
@@ -26,7 +26,7 @@ fn put(coded: bool, e: Edited, layout: &mut [u32; 8]) -> u32
 }
 
 pub fn set_size(layout: &mut [u32; 8], size: u32) -> u32
-    ensures { record { number = result; words = layout.new } ≡ setter_call true (ofSize size) layout.old }
+    ensures { record { number = result; words = layout.new } ≡ setter_call true (of_size size) layout.old }
 {
     let w = *layout;
     let e = place_setters::set_size(layout_of(w), ByteAt(size as usize));
@@ -34,7 +34,7 @@ pub fn set_size(layout: &mut [u32; 8], size: u32) -> u32
 }
 
 pub fn set_field(layout: &mut [u32; 8], offset: u32, precision: u32) -> u32
-    ensures { record { number = result; words = layout.new } ≡ setter_call true (ofField offset precision) layout.old }
+    ensures { record { number = result; words = layout.new } ≡ setter_call true (of_field offset precision) layout.old }
 {
     let w = *layout;
     let e = place_setters::set_field(layout_of(w), BitAt(offset), precision);
@@ -42,7 +42,7 @@ pub fn set_field(layout: &mut [u32; 8], offset: u32, precision: u32) -> u32
 }
 
 pub fn set_order(layout: &mut [u32; 8], order: u32) -> u32
-    ensures { record { number = result; words = layout.new } ≡ setter_call (leb order 1) (ofOrder (order_of order)) layout.old }
+    ensures { record { number = result; words = layout.new } ≡ setter_call (leb order 1) (of_order (order_of order)) layout.old }
 {
     let w = *layout;
     let e = style_setters::set_order(layout_of(w), order_of(order));
@@ -50,7 +50,7 @@ pub fn set_order(layout: &mut [u32; 8], order: u32) -> u32
 }
 
 pub fn set_pads(layout: &mut [u32; 8], lsb: u32, msb: u32) -> u32
-    ensures { record { number = result; words = layout.new } ≡ setter_call (leb lsb 2 && leb msb 2) (ofPads (pad_of lsb) (pad_of msb)) layout.old }
+    ensures { record { number = result; words = layout.new } ≡ setter_call (leb lsb 2 && leb msb 2) (of_pads (pad_of lsb) (pad_of msb)) layout.old }
 {
     let w = *layout;
     let e = style_setters::set_pads(layout_of(w), pad_of(lsb), pad_of(msb));
@@ -59,7 +59,7 @@ pub fn set_pads(layout: &mut [u32; 8], lsb: u32, msb: u32) -> u32
 
 // Refused on a bits layout.
 pub fn set_sign(layout: &mut [u32; 8], sign: u32) -> u32
-    ensures { record { number = result; words = layout.new } ≡ setter_call (leb sign 1) (ofSign (sign_of sign)) layout.old }
+    ensures { record { number = result; words = layout.new } ≡ setter_call (leb sign 1) (of_sign (sign_of sign)) layout.old }
 {
     let w = *layout;
     let e = style_setters::set_sign(layout_of(w), sign == SIGNED);

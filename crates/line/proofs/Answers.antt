@@ -18,19 +18,19 @@ use Rattle.text.specs.declared.Whole.TheVariants as whole
 use Rattle.line.specs.Column.{Found, on_found, found_number, found_whole, found_name, found_order, found_pad, found_sign, found_word, on_place, on_pads, on_layout}
 use Rattle.line.specs.Column.Found.{found, missing}
 use Rattle.line.specs.declared.NameColumn.{NameColumn}
-use Rattle.line.specs.declared.NameColumn.TheVariants as nameColumn
+use Rattle.line.specs.declared.NameColumn.TheVariants as name_column
 use Rattle.line.specs.declared.OrderColumn.{OrderColumn}
-use Rattle.line.specs.declared.OrderColumn.TheVariants as orderColumn
+use Rattle.line.specs.declared.OrderColumn.TheVariants as order_column
 use Rattle.line.specs.declared.PadColumn.{PadColumn}
-use Rattle.line.specs.declared.PadColumn.TheVariants as padColumn
+use Rattle.line.specs.declared.PadColumn.TheVariants as pad_column
 use Rattle.line.specs.declared.SignColumn.{SignColumn}
-use Rattle.line.specs.declared.SignColumn.TheVariants as signColumn
+use Rattle.line.specs.declared.SignColumn.TheVariants as sign_column
 use Rattle.line.specs.declared.WordColumn.{WordColumn}
-use Rattle.line.specs.declared.WordColumn.TheVariants as wordColumn
+use Rattle.line.specs.declared.WordColumn.TheVariants as word_column
 use Rattle.line.specs.declared.PlaceColumns.{PlaceColumns}
-use Rattle.line.specs.declared.PlaceColumns.TheVariants as placeColumns
+use Rattle.line.specs.declared.PlaceColumns.TheVariants as place_columns
 use Rattle.line.specs.declared.PadColumns.{PadColumns}
-use Rattle.line.specs.declared.PadColumns.TheVariants as padColumns
+use Rattle.line.specs.declared.PadColumns.TheVariants as pad_columns
 use Rattle.line.specs.declared.LayoutColumns.{LayoutColumns}
 use Rattle.line.specs.declared.LayoutColumns.TheVariants as layout_columns
 
@@ -61,57 +61,57 @@ module _ {R : Type 0} (x bad : R) where
     on_whole_fault e h = on_missing x bad k g (sym is ∙ ap found_whole e) h
 
   module _ (s : List ℕ) (f : NameColumn) (g : Found (List ℕ)) (k : List ℕ → ℕ → R) (is : found_name s f ≡ g) where
-    pub on_name : (a n : ℕ) → f ≡ nameColumn.Holds a n → x ≡ k (take (n - a) (drop a s)) n → x ≡ on_found g k bad
+    pub on_name : (a n : ℕ) → f ≡ name_column.Holds a n → x ≡ k (take (n - a) (drop a s)) n → x ≡ on_found g k bad
     on_name a n e h = on_found_lem x bad k g (take (n - a) (drop a s)) n (sym is ∙ ap (found_name s) e) h
 
-    pub on_name_fault : f ≡ nameColumn.Fault → x ≡ bad → x ≡ on_found g k bad
+    pub on_name_fault : f ≡ name_column.Fault → x ≡ bad → x ≡ on_found g k bad
     on_name_fault e h = on_missing x bad k g (sym is ∙ ap (found_name s) e) h
 
   module _ (f : OrderColumn) (g : Found Order) (k : Order → ℕ → R) (is : found_order f ≡ g) where
-    pub on_order : (o : Order) (n : ℕ) → f ≡ orderColumn.Holds o n → x ≡ k o n → x ≡ on_found g k bad
+    pub on_order : (o : Order) (n : ℕ) → f ≡ order_column.Holds o n → x ≡ k o n → x ≡ on_found g k bad
     on_order o n e h = on_found_lem x bad k g o n (sym is ∙ ap found_order e) h
 
-    pub on_order_fault : f ≡ orderColumn.Fault → x ≡ bad → x ≡ on_found g k bad
+    pub on_order_fault : f ≡ order_column.Fault → x ≡ bad → x ≡ on_found g k bad
     on_order_fault e h = on_missing x bad k g (sym is ∙ ap found_order e) h
 
   module _ (f : PadColumn) (g : Found Pad) (k : Pad → ℕ → R) (is : found_pad f ≡ g) where
-    pub on_pad : (p : Pad) (n : ℕ) → f ≡ padColumn.Holds p n → x ≡ k p n → x ≡ on_found g k bad
+    pub on_pad : (p : Pad) (n : ℕ) → f ≡ pad_column.Holds p n → x ≡ k p n → x ≡ on_found g k bad
     on_pad p n e h = on_found_lem x bad k g p n (sym is ∙ ap found_pad e) h
 
-    pub on_pad_fault : f ≡ padColumn.Fault → x ≡ bad → x ≡ on_found g k bad
+    pub on_pad_fault : f ≡ pad_column.Fault → x ≡ bad → x ≡ on_found g k bad
     on_pad_fault e h = on_missing x bad k g (sym is ∙ ap found_pad e) h
 
   module _ (f : SignColumn) (g : Found Bool) (k : Bool → ℕ → R) (is : found_sign f ≡ g) where
-    pub on_sign : (b : Bool) (n : ℕ) → f ≡ signColumn.Holds b n → x ≡ k b n → x ≡ on_found g k bad
+    pub on_sign : (b : Bool) (n : ℕ) → f ≡ sign_column.Holds b n → x ≡ k b n → x ≡ on_found g k bad
     on_sign b n e h = on_found_lem x bad k g b n (sym is ∙ ap found_sign e) h
 
-    pub on_sign_fault : f ≡ signColumn.Fault → x ≡ bad → x ≡ on_found g k bad
+    pub on_sign_fault : f ≡ sign_column.Fault → x ≡ bad → x ≡ on_found g k bad
     on_sign_fault e h = on_missing x bad k g (sym is ∙ ap found_sign e) h
 
   module _ (f : WordColumn) (g : Found Word) (k : Word → ℕ → R) (is : found_word f ≡ g) where
-    pub on_word : (w : Word) (n : ℕ) → f ≡ wordColumn.Holds w n → x ≡ k w n → x ≡ on_found g k bad
+    pub on_word : (w : Word) (n : ℕ) → f ≡ word_column.Holds w n → x ≡ k w n → x ≡ on_found g k bad
     on_word w n e h = on_found_lem x bad k g w n (sym is ∙ ap found_word e) h
 
-    pub on_word_fault : f ≡ wordColumn.Fault → x ≡ bad → x ≡ on_found g k bad
+    pub on_word_fault : f ≡ word_column.Fault → x ≡ bad → x ≡ on_found g k bad
     on_word_fault e h = on_missing x bad k g (sym is ∙ ap found_word e) h
 
   -- ---- the columns of a layout
 
   module _ (f g : PlaceColumns) (k : ℕ → Order → ℕ → ℕ → ℕ → R) (is : f ≡ g) where
-    pub on_place_lem : (z : ℕ) (o : Order) (at p n : ℕ) → f ≡ placeColumns.Holds z o at p n → x ≡ k z o at p n → x ≡ on_place g k bad
+    pub on_place_lem : (z : ℕ) (o : Order) (at p n : ℕ) → f ≡ place_columns.Holds z o at p n → x ≡ k z o at p n → x ≡ on_place g k bad
     unfolding on_place
     on_place_lem z o at p n e h = rw (← is, e) h
 
-    pub on_place_fault : f ≡ placeColumns.Fault → x ≡ bad → x ≡ on_place g k bad
+    pub on_place_fault : f ≡ place_columns.Fault → x ≡ bad → x ≡ on_place g k bad
     unfolding on_place
     on_place_fault e h = rw (← is, e) h
 
   module _ (f g : PadColumns) (k : Pad → Pad → ℕ → R) (is : f ≡ g) where
-    pub on_pads_lem : (lsb msb : Pad) (n : ℕ) → f ≡ padColumns.Holds lsb msb n → x ≡ k lsb msb n → x ≡ on_pads g k bad
+    pub on_pads_lem : (lsb msb : Pad) (n : ℕ) → f ≡ pad_columns.Holds lsb msb n → x ≡ k lsb msb n → x ≡ on_pads g k bad
     unfolding on_pads
     on_pads_lem lsb msb n e h = rw (← is, e) h
 
-    pub on_pads_fault : f ≡ padColumns.Fault → x ≡ bad → x ≡ on_pads g k bad
+    pub on_pads_fault : f ≡ pad_columns.Fault → x ≡ bad → x ≡ on_pads g k bad
     unfolding on_pads
     on_pads_fault e h = rw (← is, e) h
 

@@ -30,11 +30,11 @@ use Rattle.line.specs.Read.Reading.{reads, faulty}
 use Rattle.line.specs.declared.Next.{Next}
 use Rattle.line.specs.declared.Next.TheVariants as next
 use Rattle.line.specs.declared.NameColumn.{NameColumn}
-use Rattle.line.specs.declared.NameColumn.TheVariants as nameColumn
+use Rattle.line.specs.declared.NameColumn.TheVariants as name_column
 use Rattle.line.specs.declared.PlaceColumns.{PlaceColumns}
-use Rattle.line.specs.declared.PlaceColumns.TheVariants as placeColumns
+use Rattle.line.specs.declared.PlaceColumns.TheVariants as place_columns
 use Rattle.line.specs.declared.PadColumns.{PadColumns}
-use Rattle.line.specs.declared.PadColumns.TheVariants as padColumns
+use Rattle.line.specs.declared.PadColumns.TheVariants as pad_columns
 use Rattle.line.specs.declared.LayoutColumns.{LayoutColumns}
 use Rattle.line.specs.declared.LayoutColumns.TheVariants as layout_columns
 use Rattle.line.specs.declared.ReadLine.{ReadLine}
@@ -165,12 +165,12 @@ module _ (s : List ℕ) (q : ℕ) (class : Class) (rest : (Bool → Layout) → 
   layout_reading h =
       let F : PlaceColumns → Reading = λ c. on_layout (from_place c) K faulty in
       let P : ℕ → Order → ℕ → ℕ → PadColumns → Reading = λ z o at p c. on_layout (from_pads z o at p c) K faulty in
-      column_into s q number _ F placeColumns.Fault _ refl
-      (λ z a. column_into s a order _ F placeColumns.Fault _ refl
-      (λ o b. column_into s b number _ F placeColumns.Fault _ refl
-      (λ at c. column_into s c number _ F placeColumns.Fault _ refl
-      (λ p d. column_into s d pad _ (P z o at p) padColumns.Fault _ refl
-      (λ lsb e. column_into s e pad _ (P z o at p) padColumns.Fault _ refl
+      column_into s q number _ F place_columns.Fault _ refl
+      (λ z a. column_into s a order _ F place_columns.Fault _ refl
+      (λ o b. column_into s b number _ F place_columns.Fault _ refl
+      (λ at c. column_into s c number _ F place_columns.Fault _ refl
+      (λ p d. column_into s d pad _ (P z o at p) pad_columns.Fault _ refl
+      (λ lsb e. column_into s e pad _ (P z o at p) pad_columns.Fault _ refl
       (λ msb n. h z o at p lsb msb n))))))
 
 module _ (s : List ℕ) (q : ℕ) (x : Reading) where
@@ -257,7 +257,7 @@ name_length f x true true false e g h = let z : ◌≡◌ {A = ℕ} 0 1 = cc in 
 name_length f x true false v e g h = let z : ◌≡◌ {A = ℕ} 0 1 = cc in absurd (omega arith)
 name_length f x false u v e g h = let z : ◌≡◌ {A = ℕ} 0 1 = cc in absurd (omega arith)
 
-pub name_within_lem : (s : List ℕ) (q : ℕ) (f : NameColumn) (a e : ℕ) → found_name s f ≡ column_at name s q → f ≡ nameColumn.Holds a e → name_within s a e ≡ true
+pub name_within_lem : (s : List ℕ) (q : ℕ) (f : NameColumn) (a e : ℕ) → found_name s f ≡ column_at name s q → f ≡ name_column.Holds a e → name_within s a e ≡ true
 unfolding name_within name
 name_within_lem s q f a e is h =
     let x = take (e - a) (drop a s) in

@@ -17,19 +17,19 @@ use Rattle.line.specs.Line.{order, pad, layout}
 use Rattle.line.specs.declared.Next.{Next}
 use Rattle.line.specs.declared.Next.TheVariants as next
 use Rattle.line.specs.declared.NameColumn.{NameColumn}
-use Rattle.line.specs.declared.NameColumn.TheVariants as nameColumn
+use Rattle.line.specs.declared.NameColumn.TheVariants as name_column
 use Rattle.line.specs.declared.OrderColumn.{OrderColumn}
-use Rattle.line.specs.declared.OrderColumn.TheVariants as orderColumn
+use Rattle.line.specs.declared.OrderColumn.TheVariants as order_column
 use Rattle.line.specs.declared.PadColumn.{PadColumn}
-use Rattle.line.specs.declared.PadColumn.TheVariants as padColumn
+use Rattle.line.specs.declared.PadColumn.TheVariants as pad_column
 use Rattle.line.specs.declared.SignColumn.{SignColumn}
-use Rattle.line.specs.declared.SignColumn.TheVariants as signColumn
+use Rattle.line.specs.declared.SignColumn.TheVariants as sign_column
 use Rattle.line.specs.declared.WordColumn.{WordColumn}
-use Rattle.line.specs.declared.WordColumn.TheVariants as wordColumn
+use Rattle.line.specs.declared.WordColumn.TheVariants as word_column
 use Rattle.line.specs.declared.PlaceColumns.{PlaceColumns}
-use Rattle.line.specs.declared.PlaceColumns.TheVariants as placeColumns
+use Rattle.line.specs.declared.PlaceColumns.TheVariants as place_columns
 use Rattle.line.specs.declared.PadColumns.{PadColumns}
-use Rattle.line.specs.declared.PadColumns.TheVariants as padColumns
+use Rattle.line.specs.declared.PadColumns.TheVariants as pad_columns
 use Rattle.line.specs.declared.LayoutColumns.{LayoutColumns}
 use Rattle.line.specs.declared.LayoutColumns.TheVariants as layout_columns
 
@@ -79,24 +79,24 @@ found_whole (whole.Number negative d n) = found (signed_by negative d) n
 found_whole whole.Fault = missing
 
 abbrev pub found_name : List ℕ → NameColumn → Found (List ℕ)
-found_name s (nameColumn.Holds a e) = found (take (e - a) (drop a s)) e
-found_name s nameColumn.Fault = missing
+found_name s (name_column.Holds a e) = found (take (e - a) (drop a s)) e
+found_name s name_column.Fault = missing
 
 abbrev pub found_order : OrderColumn → Found Order
-found_order (orderColumn.Holds o n) = found o n
-found_order orderColumn.Fault = missing
+found_order (order_column.Holds o n) = found o n
+found_order order_column.Fault = missing
 
 abbrev pub found_pad : PadColumn → Found Pad
-found_pad (padColumn.Holds p n) = found p n
-found_pad padColumn.Fault = missing
+found_pad (pad_column.Holds p n) = found p n
+found_pad pad_column.Fault = missing
 
 abbrev pub found_sign : SignColumn → Found Bool
-found_sign (signColumn.Holds b n) = found b n
-found_sign signColumn.Fault = missing
+found_sign (sign_column.Holds b n) = found b n
+found_sign sign_column.Fault = missing
 
 abbrev pub found_word : WordColumn → Found Word
-found_word (wordColumn.Holds w n) = found w n
-found_word wordColumn.Fault = missing
+found_word (word_column.Holds w n) = found w n
+found_word word_column.Fault = missing
 
 -- ---- the columns of a layout
 
@@ -107,24 +107,24 @@ place_at s q =
     (λ size a. on_found (column_at order s a)
     (λ o b. on_found (column_at number s b)
     (λ offset c. on_found (column_at number s c)
-    (λ precision n. placeColumns.Holds size o offset precision n)
-    placeColumns.Fault) placeColumns.Fault) placeColumns.Fault) placeColumns.Fault
+    (λ precision n. place_columns.Holds size o offset precision n)
+    place_columns.Fault) place_columns.Fault) place_columns.Fault) place_columns.Fault
 
 -- ⇥lsb⇥msb
 unfoldable pub pads_at : List ℕ → ℕ → PadColumns
 pads_at s q =
     on_found (column_at pad s q)
     (λ lsb a. on_found (column_at pad s a)
-    (λ msb n. padColumns.Holds lsb msb n)
-    padColumns.Fault) padColumns.Fault
+    (λ msb n. pad_columns.Holds lsb msb n)
+    pad_columns.Fault) pad_columns.Fault
 
 unfoldable pub on_place : {R : Type 0} → PlaceColumns → (ℕ → Order → ℕ → ℕ → ℕ → R) → R → R
-on_place (placeColumns.Holds size o offset precision n) k bad = k size o offset precision n
-on_place placeColumns.Fault k bad = bad
+on_place (place_columns.Holds size o offset precision n) k bad = k size o offset precision n
+on_place place_columns.Fault k bad = bad
 
 unfoldable pub on_pads : {R : Type 0} → PadColumns → (Pad → Pad → ℕ → R) → R → R
-on_pads (padColumns.Holds lsb msb n) k bad = k lsb msb n
-on_pads padColumns.Fault k bad = bad
+on_pads (pad_columns.Holds lsb msb n) k bad = k lsb msb n
+on_pads pad_columns.Fault k bad = bad
 
 -- all six, as an unsigned layout
 unfoldable pub layout_at : Class → List ℕ → ℕ → LayoutColumns

@@ -19,7 +19,7 @@ use Rattle.sheet.specs.Sheet.{sheet_of}
 use Rattle.records.specs.Records.{record_at}
 use Rattle.records.specs.Matched.{SignificantBit, bit_in, SameSignificantBits}
 use Rattle.runs.specs.Run.{Form, Run, has_room, checks}
-use Rattle.runs.specs.Run.Form.{copying, inPlace}
+use Rattle.runs.specs.Run.Form.{copying, in_place}
 use Rattle.runs.specs.Run.Checked.{refused, passed}
 use Rattle.runs.proofs.Checks.{refused_or_passed, passed_tells, room_in_place}
 use Rattle.promises.specs.Runs.{RefusedBeforeStop, Types}
@@ -37,7 +37,7 @@ use Rattle.mask_promises.proofs.Mask.{source_formed_lem, destination_formed_lem,
 
 room_source : (form : Form) (n s d x y : ℕ) → has_room form n s d x y ≡ true → n * s ≤ x
 room_source copying n s d x y e = leb-true (n * s) x (and_true (leb (n * s) x) (leb (n * d) y) e).0
-room_source inPlace n s d x y e = (room_in_place n s d x y e).0
+room_source in_place n s d x y e = (room_in_place n s d x y e).0
 
 pub refused_or_passes : (r : Run) (S D : Datatype) → Types r S D → RefusedBeforeStop r ⊎ (checks r ≡ passed S D)
 refused_or_passes r S D t =

@@ -21,7 +21,7 @@ use Rattle.datatype.proofs.SymbolSets.{each_stands}
 use Rattle.records.specs.Leaf.{number_in, converted}
 use Rattle.records.specs.Records.{record_at, readings, converted_records, exceptions}
 use Rattle.runs.specs.Run.{Form, Run, has_room, checks, answer, after}
-use Rattle.runs.specs.Run.Form.{copying, inPlace}
+use Rattle.runs.specs.Run.Form.{copying, in_place}
 use Rattle.runs.specs.Run.Checked.{passed}
 use Rattle.runs.specs.Parts.{converted_bytes}
 use Rattle.runs.proofs.Checks.{tells_passed}
@@ -62,7 +62,7 @@ module _ (c : Call) (S D : Datatype) (m : Masked c S D) (clamps : AllClamp 0 S D
   has_room_lem copying p e =
       both (leb (n * size S) (length p)) (leb (n * size D) (length background)) (le-leb (n * size S) (length p) (rw e source_room))
       (le-leb (n * size D) (length background) background_room_lem)
-  has_room_lem inPlace p e =
+  has_room_lem in_place p e =
       both (leb (n * max (size S) (size D)) (length p)) (leb (n * size D) (length background))
       (le-leb (n * max (size S) (size D)) (length p) (rw e (le_refl (n * max (size S) (size D))))) (le-leb (n * size D) (length background) background_room_lem)
 

@@ -34,7 +34,7 @@ use Rattle.records.proofs.OneRecord.{converted_place, read_converted, reading_at
 use Rattle.records.proofs.ManyRecords.{record_length, in_none, converted_in, agree_readings, same_converted, same_bytes, returns_quiet, returns_same}
 use Rattle.records.proofs.Matched.{bits_agree, agree_bits}
 use Rattle.runs.specs.Run.{Form, Run, handled, result, checks_of, checks, answer, after, cleared}
-use Rattle.runs.specs.Run.Form.{inPlace}
+use Rattle.runs.specs.Run.Form.{in_place}
 use Rattle.runs.specs.Run.Checked.{refused, passed}
 use Rattle.runs.specs.Parts.{converted_bytes, cleared_tail, zeros, later_bytes}
 use Rattle.runs.proofs.Checks.{done_is, stop_is, refused_or_passed, passed_tells, tells_passed, symbols_refused, room_behind, Early, refused_early, in_place_checks, table_long}
@@ -198,7 +198,7 @@ module _ (r q : Run) (s : SameCall r q) where
 
 -- ---- in place, and copying from a copy
 
-module _ (r : Run) (form : r.form ≡ inPlace) where
+module _ (r : Run) (form : r.form ≡ in_place) where
   room_or_alike : (checks r ≡ refused Room) ⊎ (checks r ≡ checks (from_copy r))
   room_or_alike =
       let n : ℕ = length r.source in
@@ -457,8 +457,8 @@ only_where_equal r q S D t d w =
     }
 
 -- Demand 2, in place: "The result equals conversion from a copy".
-pub in_place : (r : Run) → r.form ≡ inPlace → AsFromCopy r
-in_place r form = in_place_from_copy r form
+pub in_place_lem : (r : Run) → r.form ≡ in_place → AsFromCopy r
+in_place_lem r form = in_place_from_copy r form
 
 -- Demand 2, what stands in each matched leaf of each record after a run that is done.
 pub arrival : (r : Run) (S D : Datatype) → Types r S D → IsDone r → (m : MatchedLeaf S D r.count) → Arrived r m

@@ -11,7 +11,7 @@ use Rattle.number.specs.Number.{fitted_to}
 use Rattle.real_numbers.specs.declared.cut.Cut.{Cut}
 use Rattle.real_numbers.specs.declared.cut.Cut.TheVariants.{NotANumber, Beyond, Whole}
 use Rattle.reals.specs.Worth.{quanta_per_one, Worth, worth}
-use Rattle.reals.specs.Worth.Worth.{notANumber, infinite, finite}
+use Rattle.reals.specs.Worth.Worth.{not_a_number, infinite, finite}
 use Rattle.reals.specs.Convert.{with_sign, lost, noting, worth_to_int, real_to_int_of}
 use Rattle.real_numbers.specs.Left.{cut_of}
 use Rattle.reals.proofs.Scale.{zero_scale, whole_quotient}
@@ -19,13 +19,13 @@ use Rattle.reals.proofs.Ends.{beyond_out}
 
 -- a worth, and what is left of it
 pub data View : Worth → Cut → Type 0 where
-  nan : View notANumber NotANumber
+  nan : View not_a_number NotANumber
   inf : {s : Bool} → View (infinite s) (Beyond s)
   far : {s : Bool} {m : ℕ} → 2 ^ 64 ≤ m / quanta_per_one → View (finite s m) (Beyond s)
   near : {s : Bool} {m : ℕ} → m / quanta_per_one < 2 ^ 64 → View (finite s m) (Whole s (m / quanta_per_one) (not (eqb (m % quanta_per_one) 0)))
 
 view : (w : Worth) → View w (cut_of w)
-view notANumber = nan
+view not_a_number = nan
 view (infinite s) = inf
 view (finite s m) = go (ltb (m / quanta_per_one) (2 ^ 64)) refl
   where

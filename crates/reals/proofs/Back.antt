@@ -15,7 +15,7 @@ use Rattle.number.specs.declared.Fitted.{Fitted}
 use Rattle.number.specs.Number.{valued, number_given, fitted_to}
 use Rattle.number.proofs.RoundTrip.{fitted_back, bits_back}
 use Rattle.reals.specs.Worth.{quanta_per_one, quanta_of, Worth, worth}
-use Rattle.reals.specs.Worth.Worth.{notANumber, infinite, finite}
+use Rattle.reals.specs.Worth.Worth.{not_a_number, infinite, finite}
 use Rattle.reals.specs.Nearest.{nearest, magnitude_bits}
 use Rattle.reals.specs.Compare.{below0, magnitude, is_worth, equals}
 use Rattle.reals.specs.Nearness.{IsNearest}
@@ -72,12 +72,12 @@ sign_and_magnitude (negsuc n) (negsuc m) s e =
 
 -- the sign and the quanta of a worth
 abbrev sign_of : Worth → Bool
-sign_of notANumber = false
+sign_of not_a_number = false
 sign_of (infinite s) = s
 sign_of (finite s m) = s
 
 abbrev quanta_of_lem : Worth → ℕ
-quanta_of_lem notANumber = 0
+quanta_of_lem not_a_number = 0
 quanta_of_lem (infinite s) = 0
 quanta_of_lem (finite s m) = m
 
@@ -154,7 +154,7 @@ back_finite signed p b s m a h w (fin {x = x} {t = t} xl tl is) e =
 
 back_worth : (signed : Bool) (p b : ℕ) (w : Worth) → 1 ≤ p → p ≤ 64 → worth b ≡ w → Apart b w → (worth_to_int (Real b) signed p w).kind ≡ 0
     → let z = valued signed p (worth_to_int (Real b) signed p w).raw in int_to_real z ≡ record { raw = b; kind = 0; given = number_given z }
-back_worth signed p b notANumber a h w q e = absurd (omega (arith, e))
+back_worth signed p b not_a_number a h w q e = absurd (omega (arith, e))
 back_worth signed p b (infinite false) a h w q e = absurd (omega (arith, e))
 back_worth signed p b (infinite true) a h w q e = absurd (omega (arith, e))
 back_worth signed p b (finite s m) a h w q e = back_finite signed p b s m a h w q e

@@ -15,7 +15,7 @@ use Rattle.number.specs.Number.{number_given, fitted_to}
 use Rattle.number.proofs.Range.{most_le, sub_one_sub, unsigned_above, signed_above, signed_below}
 use Rattle.number.proofs.RoundTrip.{fitted_lt}
 use Rattle.reals.specs.Worth.{Worth, worth}
-use Rattle.reals.specs.Worth.Worth.{notANumber, infinite, finite}
+use Rattle.reals.specs.Worth.Worth.{not_a_number, infinite, finite}
 use Rattle.reals.specs.Compare.{below0, magnitude}
 use Rattle.reals.specs.Convert.{with_sign, toward_zero, noting, worth_to_int, real_to_int_of, real_to_int}
 use Rattle.reals.proofs.Rounding.{over_or_within}
@@ -48,7 +48,7 @@ above_end g signed p true raw e f = absurd (true≢false e)
 
 -- whatever a worth becomes has p bits
 pub worth_lt : (g : Given) (signed : Bool) (p : ℕ) (w : Worth) → 1 ≤ p → (worth_to_int g signed p w).raw < 2 ^ p
-worth_lt g signed p notANumber a = pow_pos p
+worth_lt g signed p not_a_number a = pow_pos p
 worth_lt g false p (infinite false) a = (all_end g p).1
 worth_lt g false p (infinite true) a = pow_pos p
 worth_lt g true p (infinite false) a = (high_end g p).1
@@ -99,7 +99,7 @@ fits_magnitude signed p z a h e = fits_lt signed p (below0 z) (magnitude z) a h 
 
 -- whatever becomes of a real, its 64 bits are what was given
 worth_given : (g : Given) (signed : Bool) (p : ℕ) (w : Worth) → (worth_to_int g signed p w).given ≡ g
-worth_given g signed p notANumber = refl
+worth_given g signed p not_a_number = refl
 worth_given g signed p (infinite false) = refl
 worth_given g signed p (infinite true) = refl
 worth_given g signed p (finite s m) = refl

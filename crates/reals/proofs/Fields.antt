@@ -9,7 +9,7 @@ use lib.Arith.{lt_of_le-ne}
 use lib.Pow.{pow_pos, high}
 use borrow.Author.Tests.{leb-true, leb-false, le-leb, lt-leb, eqb-false, ne_eqb}
 use Rattle.reals.specs.Worth.{negative, exponent, fraction, quanta_of, Worth, worth}
-use Rattle.reals.specs.Worth.Worth.{notANumber, infinite, finite}
+use Rattle.reals.specs.Worth.Worth.{not_a_number, infinite, finite}
 
 abbrev pub sign_bit : Bool → ℕ
 sign_bit false = 0
@@ -50,7 +50,7 @@ worth_of s x t l h =
 
 -- ---- from the bits: which of the three kinds of worth they are, and for a number its parts
 pub data Apart (b : ℕ) : Worth → Type 0 where
-  nan : Apart b notANumber
+  nan : Apart b not_a_number
   inf : {s : Bool} → Apart b (infinite s)
   fin : {s : Bool} {x t : ℕ} → x < 2047 → t < 2 ^ 52 → b ≡ assembled s x t → Apart b (finite s (quanta_of x t))
 
@@ -70,7 +70,7 @@ unfolding worth
 apart_of b l = go (eqb (exponent b) 2047) refl (eqb (fraction b) 0)
   where
     go : (p : Bool) → eqb (exponent b) 2047 ≡ p → (q : Bool)
-        → Apart b (cond p (cond q (infinite (negative b)) notANumber) (finite (negative b) (quanta_of (exponent b) (fraction b))))
+        → Apart b (cond p (cond q (infinite (negative b)) not_a_number) (finite (negative b) (quanta_of (exponent b) (fraction b))))
     go true e true = inf
     go true e false = nan
     go false e q =

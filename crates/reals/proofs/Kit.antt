@@ -9,21 +9,21 @@ use lib.Ieee as Ieee
 use lib.Ieee.{Float, binary64, of_fields, of_bits, odd}
 use lib.Ieee.Exact.{HasValue, odd_sign}
 use Rattle.reals.specs.Worth.{quanta_per_one, negative, exponent, fraction, quanta_of, Worth, worth}
-use Rattle.reals.specs.Worth.Worth.{notANumber, infinite, finite}
+use Rattle.reals.specs.Worth.Worth.{not_a_number, infinite, finite}
 
 -- the same in both: not-a-number, an infinity of the sign, or m quanta of the sign
 abbrev pub SameWorth : Worth → Float → Type 0
-SameWorth notANumber x = x ≡ Ieee.nan
+SameWorth not_a_number x = x ≡ Ieee.nan
 SameWorth (infinite s) x = x ≡ Ieee.inf s
 SameWorth (finite s m) x = HasValue x s m quanta_per_one
 
-same_fields : (s : Bool) (x t : ℕ) → SameWorth (cond (eqb x 2047) (cond (eqb t 0) (infinite s) notANumber) (finite s (quanta_of x t))) (of_fields binary64 s x t)
+same_fields : (s : Bool) (x t : ℕ) → SameWorth (cond (eqb x 2047) (cond (eqb t 0) (infinite s) not_a_number) (finite s (quanta_of x t))) (of_fields binary64 s x t)
 unfolding of_fields
 same_fields s zero t = subst (λ (m : ℕ). HasValue (odd 53 s t 0 1074) s m quanta_per_one) (mul-one t) (odd_sign 53 s t 0 1074)
 same_fields s (suc x) t = go (eqb (suc x) 2047) (eqb t 0)
   where
     go : (p q : Bool)
-        → SameWorth (cond p (cond q (infinite s) notANumber) (finite s (quanta_of (suc x) t)))
+        → SameWorth (cond p (cond q (infinite s) not_a_number) (finite s (quanta_of (suc x) t)))
         (cond p (cond q (Ieee.inf s) Ieee.nan) (odd 53 s (2 ^ 52 + t) x 1074))
     go true true = refl
     go true false = refl

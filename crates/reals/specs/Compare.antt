@@ -2,7 +2,7 @@
 use Rattle.std.specs.Prelude.{Bool, true, false, ◌&&◌, ◌||◌, ℕ, suc, ◌*◌, eqb, ℤ, pos, negsuc}
 use Rattle.std.specs.Bool.{beq}
 use Rattle.reals.specs.Worth.{quanta_per_one, Worth, worth}
-use Rattle.reals.specs.Worth.Worth.{notANumber, infinite, finite}
+use Rattle.reals.specs.Worth.Worth.{not_a_number, infinite, finite}
 
 abbrev pub below0 : ℤ → Bool
 below0 (pos n) = false
@@ -14,7 +14,7 @@ magnitude (negsuc n) = suc n
 
 -- whether a worth is the number z
 abbrev pub is_worth : Worth → ℤ → Bool
-is_worth notANumber z = false
+is_worth not_a_number z = false
 is_worth (infinite s) z = false
 is_worth (finite s m) z = eqb m (magnitude z * quanta_per_one) && (eqb m 0 || beq s (below0 z))
 

@@ -6,7 +6,7 @@ use Rattle.layout.specs.declared.Layout.{Layout}
 use Rattle.number.specs.declared.Fitted.{Fitted}
 use Rattle.number.specs.Number.{largest, smallest, bits_of, number_given, fitted_to}
 use Rattle.reals.specs.Worth.{quanta_per_one, Worth, worth}
-use Rattle.reals.specs.Worth.Worth.{notANumber, infinite, finite}
+use Rattle.reals.specs.Worth.Worth.{not_a_number, infinite, finite}
 use Rattle.reals.specs.Compare.{equals}
 use Rattle.reals.specs.Nearest.{nearest}
 
@@ -36,7 +36,7 @@ noting g l f = record { raw = f.raw; kind = cond (eqb f.kind 0) (cond l 5 0) f.k
 
 -- "then applies the range as before, kinds 1 and 2, with infinities as out of range." "Not-a-number gives 0, kind 4."
 abbrev pub worth_to_int : Given → Bool → ℕ → Worth → Fitted
-worth_to_int g signed p notANumber = record { raw = 0; kind = 4; given = g }
+worth_to_int g signed p not_a_number = record { raw = 0; kind = 4; given = g }
 worth_to_int g signed p (infinite false) = record { raw = bits_of p (largest signed p); kind = 1; given = g }
 worth_to_int g signed p (infinite true) = record { raw = bits_of p (smallest signed p); kind = 2; given = g }
 worth_to_int g signed p (finite s m) = noting g (lost s m) (fitted_to signed p (toward_zero s m))

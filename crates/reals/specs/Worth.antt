@@ -28,11 +28,11 @@ quanta_of (suc x) t = (2 ^ 52 + t) * 2 ^ x
 
 -- What bits are worth; a finite number by its sign, true where it is negative, and its quanta. Negative zero is `finite true 0`.
 pub data Worth : Type 0 where
-  notANumber : Worth
+  not_a_number : Worth
   infinite : Bool → Worth
   finite : Bool → ℕ → Worth
 
 unfoldable pub worth : ℕ → Worth
 worth b =
-    cond (eqb (exponent b) top_exponent) (cond (eqb (fraction b) 0) (infinite (negative b)) notANumber)
+    cond (eqb (exponent b) top_exponent) (cond (eqb (fraction b) 0) (infinite (negative b)) not_a_number)
     (finite (negative b) (quanta_of (exponent b) (fraction b)))

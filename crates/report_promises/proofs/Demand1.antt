@@ -22,7 +22,7 @@ use Rattle.sheet.specs.Sheet.Sheet.{of_type}
 use Rattle.sheet.proofs.FirstFault.{first_fault, whole}
 use Rattle.sheet.proofs.ReadWellFormed.{read_well_formed}
 use Rattle.runs.specs.Run.{on_checked, has_room}
-use Rattle.runs.specs.Run.Form.{inPlace}
+use Rattle.runs.specs.Run.Form.{in_place}
 use Rattle.runs.specs.Run.Checked.{passed}
 use Rattle.runs.proofs.Refusals.{one_type, not_faulty, of_types, by_types, same_types, one_line, too_short, not_too_short, RefusalTable, None, Right, by_test, by_sheet, right_row, right_first, right_done, right_none}
 use Rattle.runs.proofs.Refusals.Right.{none_given}
@@ -81,7 +81,7 @@ module _ (c : Call) (S D : Datatype) (s : sheet_of c.source_sheet ≡ of_type S)
       let m : ℕ = length c.memory in
       let path = has_path_lem S D (read_well_formed c.reader_sheet D d) in
       let symbols = lost_symbol S D (read_well_formed c.source_sheet S s) (read_well_formed c.reader_sheet D d) in
-      let buffers = has_room inPlace c.count (size S) (size D) x y in
+      let buffers = has_room in_place c.count (size S) (size D) x y in
       let memory = leb (words (width D)) m in
       by_test (rows c) CHANNEL (passing c) (all_narrow (channels D)) Channel _ refl refl
       (λ e. of_reader c D d (wider c D d e))
@@ -96,10 +96,10 @@ module _ (c : Call) (S D : Datatype) (s : sheet_of c.source_sheet ≡ of_type S)
       (λ e. leb-false c.count 65536 e)
       (λ e g. omega (arith, leb-true c.count 65536 e, g))
       λ e. by_test (rows c) ROOM (passing c) (room_for c S D) Room _ refl refl
-      (λ e. of (⊎_elim (λ (f : buffers ≡ false). inl (too_short inPlace c.count (size S) (size D) x y f)) (λ f. inr (leb-false (words (width D)) m f)) (and_false buffers memory e)))
+      (λ e. of (⊎_elim (λ (f : buffers ≡ false). inl (too_short in_place c.count (size S) (size D) x y f)) (λ f. inr (leb-false (words (width D)) m f)) (and_false buffers memory e)))
       (λ e g.
       let both = and_true buffers memory e in
-      ⊎_elim (not_too_short inPlace c.count (size S) (size D) x y both.0) (λ l. omega (arith, leb-true (words (width D)) m both.1, l)) (by g))
+      ⊎_elim (not_too_short in_place c.count (size S) (size D) x y both.0) (λ l. omega (arith, leb-true (words (width D)) m both.1, l)) (by g))
       λ e. by_test (rows c) FULL (passing c) (takes c.count (held_before c D)) Full _ refl refl
       (λ e. of_reader c D d (not_taken c.count (width D) c.memory e))
       (λ e g. taken c.count (width D) c.memory e (by_reader c D d g))

@@ -23,7 +23,7 @@ use Rattle.records.specs.Matched.{Agree}
 use Rattle.records.proofs.ManyRecords.{agree_readings, same_converted}
 use Rattle.records.proofs.Results.{in_place_cleared}
 use Rattle.runs.specs.Run.{Checked, require, with_sheet}
-use Rattle.runs.specs.Run.Form.{inPlace}
+use Rattle.runs.specs.Run.Form.{in_place}
 use Rattle.runs.specs.Run.Checked.{refused, passed}
 use Rattle.runs.specs.Parts.{converted_bytes, cleared_tail, zeros}
 use Rattle.runs.proofs.Checks.{refused_or_passed}
@@ -186,12 +186,12 @@ module _ (c e : Call) (s : SameCall c e) where
           same_back : take (c.count * size D) c.background ≡ take (c.count * size D) e.background
           same_back = rw (reader_size_lem c S D pc, reader_size_lem e S D pe, ← s.count) at back
 
-      cleared_alike : cleared_tail inPlace S D c.count (log_after c) ≡ cleared_tail inPlace S D e.count (log_after e)
-      cleared_alike = tail c pc ∙ ap (zeros inPlace S D) s.count ∙ sym (tail e pe)
+      cleared_alike : cleared_tail in_place S D c.count (log_after c) ≡ cleared_tail in_place S D e.count (log_after e)
+      cleared_alike = tail c pc ∙ ap (zeros in_place S D) s.count ∙ sym (tail e pe)
         where
-          tail : (x : Call) → checks x ≡ passed S D → cleared_tail inPlace S D x.count (log_after x) ≡ zeros inPlace S D x.count
+          tail : (x : Call) → checks x ≡ passed S D → cleared_tail in_place S D x.count (log_after x) ≡ zeros in_place S D x.count
           tail x p =
-              ap (cleared_tail inPlace S D x.count) (log_is x S D p)
+              ap (cleared_tail in_place S D x.count) (log_is x S D p)
               ∙ in_place_cleared S D (source_formed_lem x S D p) (reader_formed_lem x S D p) x.count x.log x.background (background_room_lem x S D p)
 
 -- ---- the promise

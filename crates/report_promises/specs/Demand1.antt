@@ -9,7 +9,7 @@ use Rattle.datatype.specs.Datatype.{Datatype, size}
 use Rattle.datatype.specs.HasPath.{HasPath}
 use Rattle.datatype.specs.SymbolSets.{LostSymbol}
 use Rattle.sheet.specs.FirstFault.{FirstFault, Whole}
-use Rattle.runs.specs.Run.Form.{inPlace}
+use Rattle.runs.specs.Run.Form.{in_place}
 use Rattle.runs.specs.Refusals.{OfSheets, TooShort, First, no_field, only_count, only_line}
 use Rattle.channels.specs.Report.{words}
 use Rattle.channels.specs.EachLeaf.{IntLeaf}
@@ -69,7 +69,7 @@ Given c COUNT = 65536 < c.count
 -- "background under nD, in-place buffer under n × max(S, D)"; "2 + 4L signed 64-bit words for L int leaves"
 Given c ROOM =
     OfTypes c
-    (λ S D. TooShort inPlace c.count (size S) (size D) (length c.log) (length c.background) ⊎ (length c.memory < words (width D)))
+    (λ S D. TooShort in_place c.count (size S) (size D) (length c.log) (length c.background) ⊎ (length c.memory < words (width D)))
 -- "records would pass the limit, a count held at entry is negative, or a word held at entry passes 2^52 in magnitude"
 Given c FULL = OfReader c (λ D. Full c.count (width D) c.memory)
 -- "then 7 for the output"

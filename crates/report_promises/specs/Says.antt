@@ -12,7 +12,7 @@ use Rattle.datatype.specs.Matches.Match.{unmatched, matched}
 use Rattle.records.specs.Leaf.{number_in}
 use Rattle.records.specs.Records.{record_at}
 use Rattle.runs.specs.Run as runs
-use Rattle.runs.specs.Run.Form.{inPlace}
+use Rattle.runs.specs.Run.Form.{in_place}
 use Rattle.channels.specs.Channels.{channels}
 use Rattle.channels.specs.Report.{Report, words, held_in}
 use Rattle.channels.specs.Says.{Adds}
@@ -34,7 +34,7 @@ held_after c D = held_in (width D) (memory_after c)
 pub record Converted (c : Call) (S D : Datatype) : Type 0 where
   pub exceptions : ℕ
   pub answer : runs.answer_for (clamping_run c) S (wordless D) ≡ Done exceptions
-  pub log : runs.result inPlace S (wordless D) c.count c.log c.background ≡ log_after c
+  pub log : runs.result in_place S (wordless D) c.count c.log c.background ≡ log_after c
   -- the call of that form itself is done and leaves the same too, unless a word of the reader's sheet stops it
   pub not_stopped : ¬ (number_of (runs.answer (clamping_run c)) ≡ 8) → (runs.answer (clamping_run c) ≡ Done exceptions) × (runs.after (clamping_run c) ≡ log_after c)
   pub added : (held_after c D).exceptions ≡ (held_before c D).exceptions +ℤ pos exceptions

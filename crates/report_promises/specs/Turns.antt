@@ -2,7 +2,7 @@
 use Rattle.std.specs.Prelude.{◌≡◌, ◌⊎◌, List, ℕ, length}
 use Rattle.datatype.specs.Datatype.{Datatype}
 use Rattle.records.specs.Matched.{Agree}
-use Rattle.runs.specs.Run.Form.{inPlace}
+use Rattle.runs.specs.Run.Form.{in_place}
 use Rattle.runs.specs.Parts.{converted_bytes, cleared_tail}
 use Rattle.reports.specs.Call.{Call, answer, log_after, memory_after}
 use Rattle.reports.specs.Parts.{IsDone, written, Types, background_records}
@@ -28,7 +28,7 @@ pub record SameReport (c e : Call) : Type 0 where
 -- the log that is left is the same: the same converted bytes, and the same cleared tail
 pub record SameLogLeft (S D : Datatype) (c e : Call) : Type 0 where
   pub converted : converted_bytes D c.count (log_after c) ≡ converted_bytes D e.count (log_after e)
-  pub cleared : cleared_tail inPlace S D c.count (log_after c) ≡ cleared_tail inPlace S D e.count (log_after e)
+  pub cleared : cleared_tail in_place S D c.count (log_after c) ≡ cleared_tail in_place S D e.count (log_after e)
 
 -- the call with another output
 abbrev pub with_output : Call → List ℕ → Call

@@ -23,7 +23,7 @@ use Rattle.records.specs.Records.{readings, in_place_result}
 use Rattle.records.specs.Records as records
 use Rattle.records.proofs.Results.{in_place_converted}
 use Rattle.runs.specs.Run.{has_room}
-use Rattle.runs.specs.Run.Form.{inPlace}
+use Rattle.runs.specs.Run.Form.{in_place}
 use Rattle.runs.specs.Run.Checked.{refused, passed}
 use Rattle.runs.proofs.Checks.{refused_or_passed, required, sheet_read, Refusals, require_refuses, sheet_refuses, room_behind, room_in_place}
 use Rattle.channels.specs.Channels.{channels, all_narrow}
@@ -207,14 +207,14 @@ module _ (c : Call) (S D : Datatype) where
     pub reader_size_lem : reader_size c ≡ size D
     reader_size_lem = ap record_size tells.types.reader
 
-    pub has_room_lem : has_room inPlace c.count (size S) (size D) (length c.log) (length c.background) ≡ true
-    has_room_lem = (and_true (has_room inPlace c.count (size S) (size D) (length c.log) (length c.background)) _ tells.room).0
+    pub has_room_lem : has_room in_place c.count (size S) (size D) (length c.log) (length c.background) ≡ true
+    has_room_lem = (and_true (has_room in_place c.count (size S) (size D) (length c.log) (length c.background)) _ tells.room).0
 
     pub source_room : c.count * size S ≤ length c.log
     source_room = (room_in_place c.count (size S) (size D) (length c.log) (length c.background) has_room_lem).0
 
     pub background_room_lem : c.count * size D ≤ length c.background
-    background_room_lem = room_behind inPlace c.count (size S) (size D) (length c.log) (length c.background) has_room_lem
+    background_room_lem = room_behind in_place c.count (size S) (size D) (length c.log) (length c.background) has_room_lem
 
     -- ---- what it leaves
 

@@ -10,7 +10,7 @@ use Rattle.datatype.specs.Datatype.{Datatype}
 use Rattle.datatype.specs.Handling.{wordless}
 use Rattle.records.specs.Records.{readings, exceptions}
 use Rattle.runs.specs.Run as runs
-use Rattle.runs.specs.Run.Form.{inPlace}
+use Rattle.runs.specs.Run.Form.{in_place}
 use Rattle.runs.specs.Run.Checked.{passed}
 use Rattle.runs.proofs.Checks as run-checks
 use Rattle.runs.proofs.Buffers as run-buffers
@@ -41,7 +41,7 @@ module _ (c : Call) (S D : Datatype) (e : checks c ≡ passed S D) where
   pub clamped_answer : runs.answer_for (clamping_run c) S (wordless D) ≡ Done (exceptions S D c.count (readings S D c.log))
   clamped_answer = clamps_all S D c.count c.log
 
-  pub clamped_log : runs.result inPlace S (wordless D) c.count c.log c.background ≡ log_after c
+  pub clamped_log : runs.result in_place S (wordless D) c.count c.log c.background ≡ log_after c
   clamped_log = clamped_in_place S D c.count c.log c.background ∙ sym (log_is c S D e)
 
   -- and to the reader's type itself, unless a word stops it

@@ -13,7 +13,7 @@ use Rattle.datatype.specs.Datatype.{Datatype, size}
 use Rattle.datatype.proofs.Tests.{and_true}
 use Rattle.records.proofs.Results.{in_place_length}
 use Rattle.runs.specs.Run.{has_room}
-use Rattle.runs.specs.Run.Form.{inPlace}
+use Rattle.runs.specs.Run.Form.{in_place}
 use Rattle.runs.specs.Run.Checked.{refused, passed}
 use Rattle.runs.proofs.Checks.{refused_or_passed, room_in_place}
 use Rattle.channels.specs.Report.{words}
@@ -33,7 +33,7 @@ module _ (c : Call) (S D : Datatype) (e : checks c ≡ passed S D) where
   pub memory_room : words (width D) ≤ length c.memory
   memory_room =
       leb-true (words (width D)) (length c.memory)
-      (and_true (has_room inPlace c.count (size S) (size D) (length c.log) (length c.background)) (leb (words (width D)) (length c.memory))
+      (and_true (has_room in_place c.count (size S) (size D) (length c.log) (length c.background)) (leb (words (width D)) (length c.memory))
       (passed_tells c S D e).room).1
 
   passed_memory : length (memory_after c) ≡ length c.memory

@@ -12,7 +12,7 @@ use Rattle.datatype.specs.WellFormed.{WellFormed}
 use Rattle.records.specs.Records.{readings, converted_records}
 use Rattle.records.proofs.Results.{copy_none, copy_converted, copy_later, copy_length, in_place_none, in_place_converted, in_place_cleared, in_place_later, in_place_length}
 use Rattle.runs.specs.Run.{Form, Run, on_checked, has_room, target, result, if_done, checks, answer_for, answer, after}
-use Rattle.runs.specs.Run.Form.{copying, inPlace}
+use Rattle.runs.specs.Run.Form.{copying, in_place}
 use Rattle.runs.specs.Run.Checked.{refused, passed}
 use Rattle.runs.specs.Parts.{converted_bytes, cleared_tail, zeros, later_bytes}
 use Rattle.runs.proofs.Checks.{room_behind, room_in_place}
@@ -65,24 +65,24 @@ module _ (r : Run) (S D : Datatype) (c : checks r ≡ passed S D) where
 
 pub result_none : (form : Form) (S D : Datatype) (x y : List ℕ) → result form S D 0 x y ≡ target form x y
 result_none copying S D x y = copy_none S D x y
-result_none inPlace S D x y = in_place_none S D x y
+result_none in_place S D x y = in_place_none S D x y
 
 module _ (S D : Datatype) (fs : WellFormed S) (fd : WellFormed D) (n : ℕ) (x y : List ℕ) where
   module _ (room : n * size D ≤ length y) where
     pub result_converted : (form : Form) → converted_bytes D n (result form S D n x y) ≡ converted_records S D n (readings S D x) y
     result_converted copying = copy_converted S D fs fd n x y room
-    result_converted inPlace = in_place_converted S D fs fd n x y room
+    result_converted in_place = in_place_converted S D fs fd n x y room
 
     pub result_cleared : (form : Form) → cleared_tail form S D n (result form S D n x y) ≡ zeros form S D n
     result_cleared copying = refl
-    result_cleared inPlace = in_place_cleared S D fs fd n x y room
+    result_cleared in_place = in_place_cleared S D fs fd n x y room
 
     pub result_later : (form : Form) → later_bytes form S D n (result form S D n x y) ≡ later_bytes form S D n (target form x y)
     result_later copying = copy_later S D fs fd n x y room
-    result_later inPlace = in_place_later S D fs fd n x y room
+    result_later in_place = in_place_later S D fs fd n x y room
 
   pub result_length : (form : Form) → has_room form n (size S) (size D) (length x) (length y) ≡ true → length (result form S D n x y) ≡ length (target form x y)
   result_length copying e = copy_length S D fs fd n x y (room_behind copying n (size S) (size D) (length x) (length y) e)
-  result_length inPlace e =
+  result_length in_place e =
       let both : (n * size S ≤ length x) × (n * size D ≤ length x) = room_in_place n (size S) (size D) (length x) (length y) e in
-      in_place_length S D fs fd n x y (room_behind inPlace n (size S) (size D) (length x) (length y) e) both.0 both.1
+      in_place_length S D fs fd n x y (room_behind in_place n (size S) (size D) (length x) (length y) e) both.0 both.1

@@ -20,7 +20,7 @@ use Rattle.datatype.proofs.Tests.{and_true, both}
 use Rattle.sheet.specs.Sheet.{Sheet, sheet_of}
 use Rattle.sheet.specs.Sheet.Sheet.{of_type, faulty_at}
 use Rattle.runs.specs.Run.{Form, Run, Checked, require, with_sheet, on_checked, has_room, checks_of, checks}
-use Rattle.runs.specs.Run.Form.{copying, inPlace}
+use Rattle.runs.specs.Run.Form.{copying, in_place}
 use Rattle.runs.specs.Run.Checked.{refused, passed}
 
 -- ---- the numbers of answers
@@ -124,10 +124,10 @@ module _ (r : Run) (S D : Datatype) where
 -- the background has room for the converted records
 pub room_behind : (form : Form) (n s d x y : ℕ) → has_room form n s d x y ≡ true → n * d ≤ y
 room_behind copying n s d x y e = leb-true (n * d) y (and_true (leb (n * s) x) (leb (n * d) y) e).1
-room_behind inPlace n s d x y e = leb-true (n * d) y (and_true (leb (n * max s d) x) (leb (n * d) y) e).1
+room_behind in_place n s d x y e = leb-true (n * d) y (and_true (leb (n * max s d) x) (leb (n * d) y) e).1
 
 -- and the one buffer has it for both
-pub room_in_place : (n s d x y : ℕ) → has_room inPlace n s d x y ≡ true → (n * s ≤ x) × (n * d ≤ x)
+pub room_in_place : (n s d x y : ℕ) → has_room in_place n s d x y ≡ true → (n * s ≤ x) × (n * d ≤ x)
 room_in_place n s d x y e =
     let l : n * max s d ≤ x = leb-true (n * max s d) x (and_true (leb (n * max s d) x) (leb (n * d) y) e).0 in
     (le_trans (mul-le-mul_left n (le-max_left s d)) l, le_trans (mul-le-mul_left n (le-max_right s d)) l)
@@ -179,9 +179,9 @@ refused_early r a e = subst (Refusals RefusedEarly) e (checks_early r)
 
 -- ---- in place, and copying from a copy with the same background: only the room that is asked for differs
 
-copy_room : (n s d x y : ℕ) → has_room inPlace n s d x y ≡ true → has_room copying n s d x y ≡ true
+copy_room : (n s d x y : ℕ) → has_room in_place n s d x y ≡ true → has_room copying n s d x y ≡ true
 copy_room n s d x y e =
-    both (leb (n * s) x) (leb (n * d) y) (le-leb (n * s) x (room_in_place n s d x y e).0) (le-leb (n * d) y (room_behind inPlace n s d x y e))
+    both (leb (n * s) x) (leb (n * d) y) (le-leb (n * s) x (room_in_place n s d x y e).0) (le-leb (n * d) y (room_behind in_place n s d x y e))
 
 -- refused for room, or judged alike
 abbrev RoomOr : Checked → Checked → Type 0
@@ -195,7 +195,7 @@ sheet_alike : (x : Sheet) (a : ℕ → Answer) {f g : Datatype → Checked} → 
 sheet_alike (of_type T) a h = h T
 sheet_alike (faulty_at k) a h = inr refl
 
-pub in_place_checks : (h : ℕ) (ss ds : List ℕ) (n x y t : ℕ) → RoomOr (checks_of inPlace h ss ds n x y t) (checks_of copying h ss ds n x y t)
+pub in_place_checks : (h : ℕ) (ss ds : List ℕ) (n x y t : ℕ) → RoomOr (checks_of in_place h ss ds n x y t) (checks_of copying h ss ds n x y t)
 unfolding checks_of
 in_place_checks h ss ds n x y t =
     require_alike (leb h 1) Handling
@@ -206,10 +206,10 @@ in_place_checks h ss ds n x y t =
     (require_alike (keeps_symbols S D) Symbols
     (require_alike (leb n 65536) Count (at (size S) (size D) (passed S D))))))))
   where
-    at : (s d : ℕ) (c : Checked) → RoomOr (require (has_room inPlace n s d x y) Room c) (require (has_room copying n s d x y) Room c)
-    at s d c = go (has_room inPlace n s d x y) refl
+    at : (s d : ℕ) (c : Checked) → RoomOr (require (has_room in_place n s d x y) Room c) (require (has_room copying n s d x y) Room c)
+    at s d c = go (has_room in_place n s d x y) refl
       where
-        go : (b : Bool) → has_room inPlace n s d x y ≡ b → RoomOr (require b Room c) (require (has_room copying n s d x y) Room c)
+        go : (b : Bool) → has_room in_place n s d x y ≡ b → RoomOr (require b Room c) (require (has_room copying n s d x y) Room c)
         go true e = inr (rw (copy_room n s d x y e))
         go false e = inl refl
 

@@ -17,7 +17,7 @@ use Rattle.sheet.specs.Sheet.Sheet.{of_type, faulty_at}
 use Rattle.sheet.specs.FirstFault.{FirstFault, Whole}
 use Rattle.sheet.proofs.FirstFault.{first_fault, whole}
 use Rattle.runs.specs.Run.{Form, Checked, require, with_sheet, on_checked, has_room}
-use Rattle.runs.specs.Run.Form.{copying, inPlace}
+use Rattle.runs.specs.Run.Form.{copying, in_place}
 use Rattle.runs.specs.Refusals.{OfSheets, TooShort, First, only_line}
 use Rattle.runs.specs.Refusals.First.{here, behind}
 
@@ -65,11 +65,11 @@ neither_under m x n y e (inr l) = omega (arith, leb-true n y (and_true (leb m x)
 
 pub too_short : (form : Form) (n s d x y : ℕ) → has_room form n s d x y ≡ false → TooShort form n s d x y
 too_short copying n s d x y e = either_under (n * s) x (n * d) y e
-too_short inPlace n s d x y e = either_under (n * max s d) x (n * d) y e
+too_short in_place n s d x y e = either_under (n * max s d) x (n * d) y e
 
 pub not_too_short : (form : Form) (n s d x y : ℕ) → has_room form n s d x y ≡ true → ¬ (TooShort form n s d x y)
 not_too_short copying n s d x y e = neither_under (n * s) x (n * d) y e
-not_too_short inPlace n s d x y e = neither_under (n * max s d) x (n * d) y e
+not_too_short in_place n s d x y e = neither_under (n * max s d) x (n * d) y e
 
 -- ---- what a table says of an answer, row by row
 

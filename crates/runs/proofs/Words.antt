@@ -21,7 +21,7 @@ use Rattle.records.specs.Records.{Readings, readings, exceptions, in_place_resul
 use Rattle.records.proofs.Stopping.{first_alike}
 use Rattle.records.proofs.Alike.{readings_alike, kind_alike, given_alike, exceptions_alike, copy_alike, in_place_alike}
 use Rattle.runs.specs.Run.{Form, require, with_sheet, on_checked, has_room, type_checks, checks_of, or_stop, stop_from, handled, result}
-use Rattle.runs.specs.Run.Form.{copying, inPlace}
+use Rattle.runs.specs.Run.Form.{copying, in_place}
 use Rattle.runs.specs.Run.Checked.{passed}
 use Rattle.runs.proofs.Exceptions.{clamped_handled}
 
@@ -73,7 +73,7 @@ module _ (h : ℕ) (S D : Datatype) where
 module _ (S D : Datatype) where
   pub source_result : (form : Form) (n : ℕ) (x y : List ℕ) → result form (wordless S) D n x y ≡ result form S D n x y
   source_result copying n x y = copy_alike S D (wordless S) D (wordless_size S) refl (source_match D S) n x y
-  source_result inPlace n x y = in_place_alike S D (wordless S) D (wordless_size S) refl (source_match D S) n x y
+  source_result in_place n x y = in_place_alike S D (wordless S) D (wordless_size S) refl (source_match D S) n x y
 
 -- ---- what is said of a run whose source sheet is of type S, by the type without its words
 

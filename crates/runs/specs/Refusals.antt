@@ -6,7 +6,7 @@ use Rattle.answer.specs.Answer.{given_sign, given_magnitude}
 use Rattle.datatype.specs.Datatype.{Datatype}
 use Rattle.sheet.specs.FirstFault.{Whole}
 use Rattle.runs.specs.Run.{Form}
-use Rattle.runs.specs.Run.Form.{copying, inPlace}
+use Rattle.runs.specs.Run.Form.{copying, in_place}
 
 -- ---- "Given exactly when"
 
@@ -22,7 +22,7 @@ OfSheets source_sheet destination_sheet holds = (S : Datatype) × (D : Datatype)
 -- n records, of S bytes in the source and of D bytes in the destination; each buffer by its length
 abbrev pub TooShort : Form → ℕ → ℕ → ℕ → ℕ → ℕ → Type 0
 TooShort copying n S D source destination = (source < n * S) ⊎ (destination < n * D)
-TooShort inPlace n S D buffer background = (buffer < n * max S D) ⊎ (background < n * D)
+TooShort in_place n S D buffer background = (buffer < n * max S D) ⊎ (background < n * D)
 
 -- ---- "in the order of checks"
 

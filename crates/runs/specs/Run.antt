@@ -14,7 +14,7 @@ use Rattle.records.specs.Records.{Readings, readings, exceptions, copy_result, i
 
 -- "Two forms. Copying: a source buffer and a destination buffer, whose own bytes are the background. In place: one buffer and a separate background."
 pub data Form : Type 0 where
-  copying inPlace : Form
+  copying in_place : Form
 
 -- everything that a call is lent
 pub record Run : Type 0 where
@@ -37,7 +37,7 @@ copying_run ss ds n handling source destination table =
 
 abbrev pub in_place_run : List ℕ → List ℕ → ℕ → ℕ → List ℕ → List ℕ → List ℕ → Run
 in_place_run ss ds n handling buffer background table =
-    record { form = inPlace; handling = handling; source_sheet = ss; destination_sheet = ds; count = n; source = buffer; background = background; table = table }
+    record { form = in_place; handling = handling; source_sheet = ss; destination_sheet = ds; count = n; source = buffer; background = background; table = table }
 
 -- ---- "Numbers of refusal, in the order of checks": the checks before STOP
 
@@ -57,7 +57,7 @@ with_sheet (faulty_at k) refusal next = refused (refusal k)
 -- "7 ROOM: source under nS, destination or background under nD, in-place buffer under n × max(S, D)"
 abbrev pub has_room : Form → ℕ → ℕ → ℕ → ℕ → ℕ → Bool
 has_room copying n S D source background = leb (n * S) source && leb (n * D) background
-has_room inPlace n S D buffer background = leb (n * max S D) buffer && leb (n * D) background
+has_room in_place n S D buffer background = leb (n * max S D) buffer && leb (n * D) background
 
 -- checks 6 and 7: records of two types, and the buffers by their lengths
 abbrev pub record_checks : Form → ℕ → ℕ → ℕ → Datatype → Datatype → Checked
@@ -118,11 +118,11 @@ answer r = on_checked (answer_for r) (λ refusal. refusal) (checks r)
 -- the destination buffer; in place, the one buffer
 abbrev pub target : Form → List ℕ → List ℕ → List ℕ
 target copying source background = background
-target inPlace buffer background = buffer
+target in_place buffer background = buffer
 
 abbrev pub result : Form → Datatype → Datatype → ℕ → List ℕ → List ℕ → List ℕ
 result copying S D n source background = copy_result S D n source background
-result inPlace S D n buffer background = in_place_result S D n buffer background
+result in_place S D n buffer background = in_place_result S D n buffer background
 
 -- "A refusal leaves data and list buffers unchanged"
 abbrev pub if_done : Answer → List ℕ → List ℕ → List ℕ

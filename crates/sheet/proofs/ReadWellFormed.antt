@@ -31,7 +31,7 @@ use Rattle.text.specs.Text.{newline, split}
 use Rattle.text.specs.Field.{when, ◌>>=◌}
 use Rattle.line.specs.Line.{Line, line_of}
 use Rattle.line.specs.Line.Line.{atomic_line, enum_line, value_line, compound_line, member_line, array_line, real_line}
-use Rattle.sheet.specs.Sheet.{SoFar, type_numbered, add_type, add_row, enum_of, is_none, may_list, with_value, is_apart, may_place, with_member, eachSome, array_of, on_newest, older, judged_after, judge, Outcome, is_nil, lines_from, outcome_of, newest, typed, sheet_of}
+use Rattle.sheet.specs.Sheet.{SoFar, type_numbered, add_type, add_row, enum_of, is_none, may_list, with_value, is_apart, may_place, with_member, each_some, array_of, on_newest, older, judged_after, judge, Outcome, is_nil, lines_from, outcome_of, newest, typed, sheet_of}
 use Rattle.sheet.specs.Sheet.Outcome.{accepted, faulty}
 use Rattle.sheet.specs.Sheet.Sheet.{of_type}
 
@@ -149,25 +149,25 @@ member_formed x offset M word (compound z ms) f w e =
     )
 member_formed x offset M word (array z ds T) f w e = nothing e
 
-each_some : (ds : List ℕ) → eachSome ds ≡ true → EachSome ds
-each_some [] e = tt
-each_some (d ∷ ds) e =
-    let h = and_true (leb 1 d) (eachSome ds) e in
-    (leb-true 1 d h.0, each_some ds h.1)
+each_some_lem : (ds : List ℕ) → each_some ds ≡ true → EachSome ds
+each_some_lem [] e = tt
+each_some_lem (d ∷ ds) e =
+    let h = and_true (leb 1 d) (each_some ds) e in
+    (leb-true 1 d h.0, each_some_lem ds h.1)
 
 array_formed : (ds : List ℕ) (T : Datatype) {U : Datatype} → WellFormed T → array_of ds T ≡ some U → WellFormed U
 array_formed ds T w e =
     let n : ℕ = length ds in
     let z : ℕ = elements ds * size T in
-    let g = when_gave (leb 1 n && leb n 4 && eachSome ds && leb z 4096) (array z ds T) e in
-    let most = and_true (leb 1 n && leb n 4 && eachSome ds) (leb z 4096) g.0 in
-    let each = and_true (leb 1 n && leb n 4) (eachSome ds) most.0 in
+    let g = when_gave (leb 1 n && leb n 4 && each_some ds && leb z 4096) (array z ds T) e in
+    let most = and_true (leb 1 n && leb n 4 && each_some ds) (leb z 4096) g.0 in
+    let each = and_true (leb 1 n && leb n 4) (each_some ds) most.0 in
     let rank = and_true (leb 1 n) (leb n 4) each.0 in
     subst WellFormed g.1 (
       record {
         some = leb-true 1 n rank.0;
         rank = leb-true n 4 rank.1;
-        each = each_some ds each.1;
+        each = each_some_lem ds each.1;
         product = refl;
         most = leb-true z 4096 most.1;
       },

@@ -16,7 +16,7 @@ use Rattle.datatype.specs.Paths.{member_named, on_found}
 use Rattle.text.specs.Text.{newline, split}
 use Rattle.text.specs.Field.{when, ◌>>=◌}
 use Rattle.line.specs.Line.{Line, line_of}
-pub use Rattle.line.specs.Read.{each_positive as eachSome}
+pub use Rattle.line.specs.Read.{each_positive as each_some}
 use Rattle.line.specs.Line.Line.{atomic_line, enum_line, value_line, compound_line, member_line, array_line, real_line}
 
 -- what the lines before a line gave: the types, the newest first, and how many value and member lines there were
@@ -83,7 +83,7 @@ with_member x offset T word (array z ds U) = none
 -- "An array has up to four dimensions, each at least 1; its size is their product times the base's size, at most 4,096."
 abbrev pub array_of : List ℕ → Datatype → Option Datatype
 array_of ds T =
-    when (leb 1 (length ds) && leb (length ds) 4 && eachSome ds && leb (elements ds * size T) 4096) (array (elements ds * size T) ds T)
+    when (leb 1 (length ds) && leb (length ds) 4 && each_some ds && leb (elements ds * size T) 4096) (array (elements ds * size T) ds T)
 
 -- ---- a line after other lines
 

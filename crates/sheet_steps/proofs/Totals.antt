@@ -13,7 +13,7 @@ use lib.Seq.{drop-cons}
 use Rattle.datatype.specs.Datatype.{elements}
 use Rattle.table.specs.Table.{up_to_zero}
 use Rattle.sheet_steps.specs.declared.Total.TheVariants.{Bytes, TooMany}
-use Rattle.sheet.specs.Sheet.{eachSome}
+use Rattle.sheet.specs.Sheet.{each_some}
 use Rattle.sheet_steps.specs.Steps.{total_of}
 
 pub few_dimensions : (ds : List ℕ) → length (up_to_zero ds) ≤ length ds
@@ -24,11 +24,11 @@ few_dimensions (d ∷ ds) = go (few_dimensions ds) (eqb d 0)
     go ih true = omega arith
     go ih false = omega arith
 
-pub each_dimension : (ds : List ℕ) → eachSome (up_to_zero ds) ≡ true
+pub each_dimension : (ds : List ℕ) → each_some (up_to_zero ds) ≡ true
 each_dimension [] = refl
 each_dimension (d ∷ ds) = go (each_dimension ds) (eqb d 0) refl
   where
-    go : eachSome (up_to_zero ds) ≡ true → (b : Bool) → eqb d 0 ≡ b → eachSome (cond b [] (d ∷ up_to_zero ds)) ≡ true
+    go : each_some (up_to_zero ds) ≡ true → (b : Bool) → eqb d 0 ≡ b → each_some (cond b [] (d ∷ up_to_zero ds)) ≡ true
     go ih true e = refl
     go ih false e =
         let some : d ≡ 0 → ⊥ = eqb-false _ _ e in

@@ -33,7 +33,7 @@ use Rattle.records.specs.Matched.{MatchedLeaf}
 use Rattle.records.proofs.OneRecord.{reading_at, none_raised}
 use Rattle.records.proofs.ManyRecords.{same_record, converted_in, none_in}
 use Rattle.runs.specs.Run.{Form, Run, has_room, handled, checks, answer, after}
-use Rattle.runs.specs.Run.Form.{copying, inPlace}
+use Rattle.runs.specs.Run.Form.{copying, in_place}
 use Rattle.runs.specs.Run.Checked.{passed}
 use Rattle.runs.proofs.Checks.{done_is, passed_tells, room_in_place}
 use Rattle.runs.proofs.Buffers.{answer_is}
@@ -50,7 +50,7 @@ use Rattle.step_promises.proofs.Alike.{AlikeAnswers, AlikeAt, both_matched, neit
 -- the source has room for the source records
 source_room : (form : Form) (n s d x y : ℕ) → has_room form n s d x y ≡ true → n * s ≤ x
 source_room copying n s d x y e = leb-true (n * s) x (and_true (leb (n * s) x) (leb (n * d) y) e).0
-source_room inPlace n s d x y e = (room_in_place n s d x y e).0
+source_room in_place n s d x y e = (room_in_place n s d x y e).0
 
 -- ---- the three runs
 

@@ -19,7 +19,7 @@ use Rattle.sheet.specs.Sheet.Sheet.{of_type}
 use Rattle.records.specs.Records.{readings, exceptions}
 use Rattle.records.proofs.Alike.{readings_alike, exceptions_alike, copy_alike, in_place_alike}
 use Rattle.runs.specs.Run.{Form, Run, has_room, checks, answer, result}
-use Rattle.runs.specs.Run.Form.{copying, inPlace}
+use Rattle.runs.specs.Run.Form.{copying, in_place}
 use Rattle.runs.specs.Run.Checked.{refused, passed}
 use Rattle.runs.specs.Parts.{converted_bytes}
 use Rattle.runs.proofs.Checks.{refused_or_passed, Passed, passed_tells, tells_passed}
@@ -112,7 +112,7 @@ module _ (A : Datatype) (r r' : Run) (o : OtherDestinationWords r r') (sheet : s
 
   same_result : (form : Form) (n : ℕ) (x y : List ℕ) → result form A B n x y ≡ result form A B' n x y
   same_result copying n x y = sym (copy_alike A B A B' refl same_size same_match n x y)
-  same_result inPlace n x y = sym (in_place_alike A B A B' refl same_size same_match n x y)
+  same_result in_place n x y = sym (in_place_alike A B A B' refl same_size same_match n x y)
 
   without_effect : WithoutEffect r r'
   without_effect =

@@ -1,0 +1,17 @@
+-- `paths::types::row_over` meets its contract. The invariant: the row is among those that are left. Assumes nothing.
+use mathlib.Core.Path.{refl, sym, ◌∙◌}
+use native.Mathlib.Omega.{arith}
+use Rattle.paths.proofs.Rows.{over_none, over_hit, over_skip}
+use Rattle.paths.proofs.types.row_over.Goals as goal
+
+pub loop-left-init : goal.loop-left-init
+loop-left-init c = (refl, omega arith)
+
+pub returns-then-row_covers : goal.returns-then-row_covers
+returns-then-row_covers c = sym (c.loop-left.invariant.0 ∙ over_hit _ _ _ _ c.loop-left-test.true c.row_covers.ensures c.if-row_covers.true)
+
+pub loop-left-preserved : goal.loop-left-preserved
+loop-left-preserved c = (c.loop-left.invariant.0 ∙ over_skip _ _ _ _ c.loop-left-test.true c.row_covers.ensures c.if-row_covers.false, omega arith)
+
+pub returns : goal.returns
+returns c = sym (c.loop-left.invariant.0 ∙ over_none _ _ _ _ c.loop-left-test.false)
