@@ -3,9 +3,11 @@
 
 use convert::convert_copying;
 use shown::{show, show_answer, show_bytes};
+use std::io;
+use std::io::Write;
 
-fn case_1() {
-    show(b"4386 into 4 bytes BE offset 0");
+fn case_1<W: Write>(out: &mut W) -> io::Result<()> {
+    show(out, b"4386 into 4 bytes BE offset 0")?;
     let mut written = [0xffu8, 0xff, 0xff, 0xff, 0x99];
     let mut table = [7u32; 8192];
     let a = convert_copying(
@@ -17,12 +19,12 @@ fn case_1() {
         &mut written,
         &mut table,
     );
-    show_answer(a);
-    show_bytes(&written);
+    show_answer(out, a)?;
+    show_bytes(out, &written)
 }
 
-fn case_2() {
-    show(b"7F unsigned to signed");
+fn case_2<W: Write>(out: &mut W) -> io::Result<()> {
+    show(out, b"7F unsigned to signed")?;
     let mut written = [0x00u8];
     let mut table = [7u32; 8192];
     let a = convert_copying(
@@ -34,12 +36,12 @@ fn case_2() {
         &mut written,
         &mut table,
     );
-    show_answer(a);
-    show_bytes(&written);
+    show_answer(out, a)?;
+    show_bytes(out, &written)
 }
 
-fn case_3() {
-    show(b"FF unsigned to signed clamped");
+fn case_3<W: Write>(out: &mut W) -> io::Result<()> {
+    show(out, b"FF unsigned to signed clamped")?;
     let mut written = [0x00u8];
     let mut table = [7u32; 8192];
     let a = convert_copying(
@@ -51,12 +53,12 @@ fn case_3() {
         &mut written,
         &mut table,
     );
-    show_answer(a);
-    show_bytes(&written);
+    show_answer(out, a)?;
+    show_bytes(out, &written)
 }
 
-fn case_4() {
-    show(b"pad bits not read");
+fn case_4<W: Write>(out: &mut W) -> io::Result<()> {
+    show(out, b"pad bits not read")?;
     let mut written = [0x00u8, 0x00];
     let mut table = [7u32; 8192];
     let a = convert_copying(
@@ -68,12 +70,12 @@ fn case_4() {
         &mut written,
         &mut table,
     );
-    show_answer(a);
-    show_bytes(&written);
+    show_answer(out, a)?;
+    show_bytes(out, &written)
 }
 
-fn case_5() {
-    show(b"all records");
+fn case_5<W: Write>(out: &mut W) -> io::Result<()> {
+    show(out, b"all records")?;
     let mut written = [0x77u8, 0x77, 0x77, 0x77, 0x77, 0x77, 0x77];
     let mut table = [7u32; 8192];
     let a = convert_copying(
@@ -85,12 +87,12 @@ fn case_5() {
         &mut written,
         &mut table,
     );
-    show_answer(a);
-    show_bytes(&written);
+    show_answer(out, a)?;
+    show_bytes(out, &written)
 }
 
-fn case_6() {
-    show(b"array by row-major place");
+fn case_6<W: Write>(out: &mut W) -> io::Result<()> {
+    show(out, b"array by row-major place")?;
     let mut written = [
         0x00u8, 0x00, 0x00, 0x00, 0x00, 0x00, 0x00, 0x00, 0x00, 0x00, 0x00, 0x00,
     ];
@@ -104,12 +106,12 @@ fn case_6() {
         &mut written,
         &mut table,
     );
-    show_answer(a);
-    show_bytes(&written);
+    show_answer(out, a)?;
+    show_bytes(out, &written)
 }
 
-fn case_7() {
-    show(b"unmatched keeps the background");
+fn case_7<W: Write>(out: &mut W) -> io::Result<()> {
+    show(out, b"unmatched keeps the background")?;
     let mut written = [0x70u8, 0x71, 0x72, 0x73];
     let mut table = [7u32; 8192];
     let a = convert_copying(
@@ -121,12 +123,12 @@ fn case_7() {
         &mut written,
         &mut table,
     );
-    show_answer(a);
-    show_bytes(&written);
+    show_answer(out, a)?;
+    show_bytes(out, &written)
 }
 
-fn case_8() {
-    show(b"clamped by a word");
+fn case_8<W: Write>(out: &mut W) -> io::Result<()> {
+    show(out, b"clamped by a word")?;
     let mut written = [0x55u8, 0x66];
     let mut table = [7u32; 8192];
     let a = convert_copying(
@@ -138,17 +140,18 @@ fn case_8() {
         &mut written,
         &mut table,
     );
-    show_answer(a);
-    show_bytes(&written);
+    show_answer(out, a)?;
+    show_bytes(out, &written)
 }
 
-fn main() {
-    case_1();
-    case_2();
-    case_3();
-    case_4();
-    case_5();
-    case_6();
-    case_7();
-    case_8();
+fn main(rt: HostRuntime) -> io::Result<()> {
+    let mut out = io::writer(&rt);
+    case_1(&mut out)?;
+    case_2(&mut out)?;
+    case_3(&mut out)?;
+    case_4(&mut out)?;
+    case_5(&mut out)?;
+    case_6(&mut out)?;
+    case_7(&mut out)?;
+    case_8(&mut out)
 }

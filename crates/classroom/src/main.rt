@@ -3,9 +3,11 @@
 
 use convert::{convert_copying, convert_in_place, convert_in_place_plain};
 use shown::{show, show_answer, show_bytes};
+use std::io;
+use std::io::Write;
 
-fn case_1() {
-    show(b"sign of the field");
+fn case_1<W: Write>(out: &mut W) -> io::Result<()> {
+    show(out, b"sign of the field")?;
     let mut written = [0x00u8, 0x00];
     let mut table = [7u32; 8192];
     let a = convert_copying(
@@ -17,12 +19,12 @@ fn case_1() {
         &mut written,
         &mut table,
     );
-    show_answer(a);
-    show_bytes(&written);
+    show_answer(out, a)?;
+    show_bytes(out, &written)
 }
 
-fn case_2() {
-    show(b"growing in place");
+fn case_2<W: Write>(out: &mut W) -> io::Result<()> {
+    show(out, b"growing in place")?;
     let mut written = [0x0au8, 0x0b, 0x77, 0x77];
     let mut table = [7u32; 8192];
     let a = convert_in_place(
@@ -34,12 +36,12 @@ fn case_2() {
         b"\x00\x00\x00\x00",
         &mut table,
     );
-    show_answer(a);
-    show_bytes(&written);
+    show_answer(out, a)?;
+    show_bytes(out, &written)
 }
 
-fn case_3() {
-    show(b"members by name");
+fn case_3<W: Write>(out: &mut W) -> io::Result<()> {
+    show(out, b"members by name")?;
     let mut written = [0x77u8, 0x77];
     let mut table = [7u32; 8192];
     let a = convert_copying(
@@ -51,12 +53,12 @@ fn case_3() {
         &mut written,
         &mut table,
     );
-    show_answer(a);
-    show_bytes(&written);
+    show_answer(out, a)?;
+    show_bytes(out, &written)
 }
 
-fn case_4() {
-    show(b"pads of the destination");
+fn case_4<W: Write>(out: &mut W) -> io::Result<()> {
+    show(out, b"pads of the destination")?;
     let mut written = [0xffu8, 0xff];
     let mut table = [7u32; 8192];
     let a = convert_copying(
@@ -68,12 +70,12 @@ fn case_4() {
         &mut written,
         &mut table,
     );
-    show_answer(a);
-    show_bytes(&written);
+    show_answer(out, a)?;
+    show_bytes(out, &written)
 }
 
-fn case_5() {
-    show(b"symbols and not numbers");
+fn case_5<W: Write>(out: &mut W) -> io::Result<()> {
+    show(out, b"symbols and not numbers")?;
     let mut written = [0x55u8, 0x55, 0x55];
     let mut table = [7u32; 8192];
     let a = convert_copying(
@@ -85,12 +87,12 @@ fn case_5() {
         &mut written,
         &mut table,
     );
-    show_answer(a);
-    show_bytes(&written);
+    show_answer(out, a)?;
+    show_bytes(out, &written)
 }
 
-fn case_6() {
-    show(b"stop names the missing symbol");
+fn case_6<W: Write>(out: &mut W) -> io::Result<()> {
+    show(out, b"stop names the missing symbol")?;
     let mut written = [0x55u8, 0x55, 0x55];
     let mut table = [7u32; 8192];
     let a = convert_copying(
@@ -102,12 +104,12 @@ fn case_6() {
         &mut written,
         &mut table,
     );
-    show_answer(a);
-    show_bytes(&written);
+    show_answer(out, a)?;
+    show_bytes(out, &written)
 }
 
-fn case_7() {
-    show(b"shrunk tail cleared");
+fn case_7<W: Write>(out: &mut W) -> io::Result<()> {
+    show(out, b"shrunk tail cleared")?;
     let mut written = [0x01u8, 0x02, 0x03, 0x04, 0x05, 0x06, 0x07, 0x08, 0x99];
     let mut table = [7u32; 8192];
     let a = convert_in_place_plain(
@@ -118,16 +120,17 @@ fn case_7() {
         b"\x00\x00",
         &mut table,
     );
-    show_answer(a);
-    show_bytes(&written);
+    show_answer(out, a)?;
+    show_bytes(out, &written)
 }
 
-fn main() {
-    case_1();
-    case_2();
-    case_3();
-    case_4();
-    case_5();
-    case_6();
-    case_7();
+fn main(rt: HostRuntime) -> io::Result<()> {
+    let mut out = io::writer(&rt);
+    case_1(&mut out)?;
+    case_2(&mut out)?;
+    case_3(&mut out)?;
+    case_4(&mut out)?;
+    case_5(&mut out)?;
+    case_6(&mut out)?;
+    case_7(&mut out)
 }

@@ -3,4 +3,5 @@ mod Lengths
 mod Writes
 mod Notes
 mod Outputs
+mod Whole
 pub mod FaultyLine

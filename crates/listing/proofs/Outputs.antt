@@ -1,7 +1,7 @@
 -- What is printed, by what the sheet says. Assumes nothing.
 use mathlib.Core.Path.{◌≡◌, refl, sym, ap, ap₂, ◌∙◌}
-use mathlib.Core.List.{List, ◌++◌}
-use Prim.Native.Nat.{ℕ, ◌+◌, ◌≤◌}
+use mathlib.Core.List.{List}
+use Prim.Native.Nat.{ℕ, ◌≤◌}
 use native.Mathlib.Omega.{arith}
 use borrow.Author.Tests.{le-leb}
 use lib.ListN.{length, drop, length-append, length-drop}
@@ -75,11 +75,11 @@ module _ (s d : List ℕ) (room : 49166 ≤ length d) {a : Answer} {f : List ℕ
 
 -- ---- what is printed lies in the buffer
 
-list_length : (x : Sheet) (n : ℕ) → kind_of x ≡ AList n → n ≡ length (printed x)
+pub list_length : (x : Sheet) (n : ℕ) → kind_of x ≡ AList n → n ≡ length (printed x)
 list_length (of_type T) n e = cc
 list_length (faulty_at k) n e = let z : ◌≡◌ {A = ℕ} 0 1 = cc in absurd (omega arith)
 
-refusal_length : (x : Sheet) (n k : ℕ) → kind_of x ≡ Refused n k → n ≡ length (printed x)
+pub refusal_length : (x : Sheet) (n k : ℕ) → kind_of x ≡ Refused n k → n ≡ length (printed x)
 refusal_length (of_type T) n k e = let z : ◌≡◌ {A = ℕ} 0 1 = cc in absurd (omega arith)
 refusal_length (faulty_at j) n k e = cc
 

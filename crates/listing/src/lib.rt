@@ -1,14 +1,18 @@
 // What the list program prints for a sheet: its leaf list, or the one line of a refusal; and beside a refusal, for standard error, the faulty line itself.
 #![tactic(auto)]
 
-ghost use Rattle.std.specs.Prelude.{◌≡◌, ◌≤◌, length};
+ghost use Rattle.std.specs.Prelude.{◌≡◌, ◌≤◌, length, IfSome, OnOk};
+ghost use Rattle.std.specs.Io.KnownBytes.{Appends};
 ghost use Rattle.sheet.specs.Sheet.{sheet_of};
 ghost use Rattle.text.specs.Written.{written, Wrote};
 ghost use Rattle.listing.specs.Output.{refused_line, output_of, kind_of};
+ghost use Rattle.listing.specs.Note.{note_of, said_of};
 
 use crate::note::put_note;
 use answer::{number_of, values_of};
 use leaves::leaf_list;
+use std::io;
+use std::io::{Read, Write};
 use text_writing::{put_bytes, put_decimal};
 
 pub mod note;
@@ -52,33 +56,41 @@ pub fn put_output(out: &mut [u8], sheet: &[u8]) -> Output
 }
 
 // Prints what is said of a refused sheet.
-fn print_note(sheet: &[u8], line: u32, fd: i32)
+fn print_note<E: Write>(sheet: &[u8], line: u32, notes: &mut E) -> io::Result<()>
     requires { length sheet.now ≤ 16385 }
+    ensures { OnOk result (Appends (E.contents notes.old) (E.contents notes.new) (note_of sheet.now line)) }
 {
     let mut note = [0u8; 16485];
     let n = put_note(&mut note, sheet, line);
-    io::write_all(fd, &note[..n]);
+    notes.write_all(&note[..n])
 }
 
 // Prints what is printed for a sheet, and what is said of a refused one.
-pub fn print_output(sheet: &[u8], out: i32, notes: i32)
+pub fn print_output<W: Write, E: Write>(sheet: &[u8], out: &mut W, notes: &mut E) -> io::Result<()>
     requires { length sheet.now ≤ 16385 }
+    ensures printed { OnOk result (Appends (W.contents out.old) (W.contents out.new) (output_of sheet.now)) }
+    ensures said { OnOk result (Appends (E.contents notes.old) (E.contents notes.new) (said_of sheet.now)) }
 {
     let mut bytes = [0u8; 49166];
     match put_output(&mut bytes, sheet) {
-        Output::List(n) => {
-            io::write_all(out, &bytes[..n]);
-        }
+        Output::List(n) => out.write_all(&bytes[..n]),
         Output::Refused(n, line) => {
-            io::write_all(out, &bytes[..n]);
-            print_note(sheet, line, notes);
+            out.write_all(&bytes[..n])?;
+            print_note(sheet, line, notes)
         }
     }
 }
 
 // The whole program: reads a sheet and prints. One byte more is read than a sheet may have, so that one that is too long is seen to be.
-pub fn list_from(fd: i32, out: i32, notes: i32) {
+pub fn list_from<R: Read, W: Write, E: Write>(
+    from: &mut R,
+    out: &mut W,
+    notes: &mut E,
+) -> io::Result<()>
+    ensures printed { OnOk result (IfSome (R.remaining from.old) (λ text. Appends (W.contents out.old) (W.contents out.new) (output_of text))) }
+    ensures said { OnOk result (IfSome (R.remaining from.old) (λ text. Appends (E.contents notes.old) (E.contents notes.new) (said_of text))) }
+{
     let mut sheet = [0u8; 16385];
-    let n = io::read_full(fd, &mut sheet);
-    print_output(&sheet[..n], out, notes);
+    let n = files_read::fill(from, &mut sheet)?;
+    print_output(&sheet[..n], out, notes)
 }

@@ -1,28 +1,30 @@
 // The list program's work on each file that an argument names, with what it says on standard error among what it prints.
 #![tactic(auto)]
 
-use libc::STDOUT_FILENO;
+use std::env::FillError;
+use std::io;
+use std::io::Write;
+use std::rt::{Env, Files};
 
-// Lists the sheet in the file that argument i names, under that name.
-fn list_file(i: usize) {
-    let mut name = io::buffer();
-    let n = os::arg(i, &mut name);
-    let fd = os::open_read(&name[..n]);
-    if fd < 0 {
-        os::fail(&name[..n]);
-        return;
-    }
-    io::write_all(STDOUT_FILENO, &name[..n]);
-    io::write_all(STDOUT_FILENO, b":\n");
-    listing::list_from(fd, STDOUT_FILENO, STDOUT_FILENO);
-    libc::close(fd);
+// Lists the sheet in the file of that name, under that name.
+fn list_file<R: Files + Print + Eprint>(rt: &R, name: &[u8]) -> io::Result<()> {
+    let Some(mut file) = files_read::open(rt, name)? else {
+        return Ok(());
+    };
+    let mut out = io::writer(rt);
+    out.write_all(name)?;
+    out.write_all(b":\n")?;
+    listing::list_from(&mut file, &mut out, &mut io::writer(rt))
 }
 
-fn main() {
-    let n = os::arg_count();
-    let mut i: usize = 1;
-    while i < n {
-        list_file(i);
-        i += 1;
+fn main(rt: HostRuntime) -> io::Result<()> {
+    let mut name = [0u8; 4096];
+    for i in 1..usize::MAX {
+        match rt.arg(i, &mut name) {
+            Ok(n) => list_file(&rt, &name[..n])?,
+            Err(FillError::TooLong) => eprintln!(rt; "argument {i} is too long for a file's name")?,
+            Err(FillError::NotPresent) => return Ok(()),
+        }
     }
+    Ok(())
 }

@@ -3,9 +3,11 @@
 
 use convert::{convert_copying, convert_in_place, convert_in_place_plain};
 use shown::{show, show_answer, show_bytes};
+use std::io;
+use std::io::Write;
 
-fn case_1() {
-    show(b"7 source short");
+fn case_1<W: Write>(out: &mut W) -> io::Result<()> {
+    show(out, b"7 source short")?;
     let mut written = [0x77u8, 0x77];
     let mut table = [7u32; 8192];
     let a = convert_copying(
@@ -17,12 +19,12 @@ fn case_1() {
         &mut written,
         &mut table,
     );
-    show_answer(a);
-    show_bytes(&written);
+    show_answer(out, a)?;
+    show_bytes(out, &written)
 }
 
-fn case_2() {
-    show(b"7 destination short");
+fn case_2<W: Write>(out: &mut W) -> io::Result<()> {
+    show(out, b"7 destination short")?;
     let mut written = [0x77u8];
     let mut table = [7u32; 8192];
     let a = convert_copying(
@@ -34,12 +36,12 @@ fn case_2() {
         &mut written,
         &mut table,
     );
-    show_answer(a);
-    show_bytes(&written);
+    show_answer(out, a)?;
+    show_bytes(out, &written)
 }
 
-fn case_3() {
-    show(b"7 buffer short");
+fn case_3<W: Write>(out: &mut W) -> io::Result<()> {
+    show(out, b"7 buffer short")?;
     let mut written = [0x05u8, 0x06, 0x07];
     let mut table = [7u32; 8192];
     let a = convert_in_place(
@@ -51,12 +53,12 @@ fn case_3() {
         b"\x00\x00\x00\x00",
         &mut table,
     );
-    show_answer(a);
-    show_bytes(&written);
+    show_answer(out, a)?;
+    show_bytes(out, &written)
 }
 
-fn case_4() {
-    show(b"7 background short");
+fn case_4<W: Write>(out: &mut W) -> io::Result<()> {
+    show(out, b"7 background short")?;
     let mut written = [0x05u8, 0x06];
     let mut table = [7u32; 8192];
     let a = convert_in_place(
@@ -68,12 +70,12 @@ fn case_4() {
         b"\x00",
         &mut table,
     );
-    show_answer(a);
-    show_bytes(&written);
+    show_answer(out, a)?;
+    show_bytes(out, &written)
 }
 
-fn case_5() {
-    show(b"0 no records");
+fn case_5<W: Write>(out: &mut W) -> io::Result<()> {
+    show(out, b"0 no records")?;
     let mut written = [0x01u8, 0x02];
     let mut table = [7u32; 8192];
     let a = convert_in_place_plain(
@@ -84,14 +86,15 @@ fn case_5() {
         b"\x00",
         &mut table,
     );
-    show_answer(a);
-    show_bytes(&written);
+    show_answer(out, a)?;
+    show_bytes(out, &written)
 }
 
-fn main() {
-    case_1();
-    case_2();
-    case_3();
-    case_4();
-    case_5();
+fn main(rt: HostRuntime) -> io::Result<()> {
+    let mut out = io::writer(&rt);
+    case_1(&mut out)?;
+    case_2(&mut out)?;
+    case_3(&mut out)?;
+    case_4(&mut out)?;
+    case_5(&mut out)
 }

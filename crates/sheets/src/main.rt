@@ -1,78 +1,78 @@
 // Reads each sheet that the file `index` names, and prints a line for it: that it reads, or its first faulty line.
 #![tactic(auto)]
 
-ghost use Rattle.std.specs.Prelude.{◌<◌, length};
+ghost use Rattle.std.specs.Prelude.{◌<◌, IfOk, OnOk, length};
+ghost use Rattle.std.specs.Io.KnownBytes.{Appends};
 
-use libc::STDOUT_FILENO;
 use reading::read_sheet;
 use sheet_steps::SheetRead;
+use std::io;
+use std::io::{Read, Write};
+use std::rt::Files;
 
-fn show(text: &[u8]) {
-    io::write_all(STDOUT_FILENO, text);
+fn show<W: Write>(out: &mut W, text: &[u8]) -> io::Result<()>
+    ensures { OnOk result (Appends (W.contents out.old) (W.contents out.new) text.now) }
+{
+    out.write_all(text)
 }
 
-fn show_answer(answer: SheetRead) {
+fn show_answer<W: Write>(out: &mut W, answer: SheetRead) -> io::Result<()> {
     match answer {
-        SheetRead::Types(_, _) => show(b"\tread\n"),
+        SheetRead::Types(_, _) => show(out, b"\tread\n"),
         SheetRead::Faulty(line) => {
-            show(b"\tfaulty\t");
-            io::print_decimal(STDOUT_FILENO, line as u64);
-            show(b"\n");
+            show(out, b"\tfaulty\t")?;
+            writeln!(out, "{line}")
         }
     }
 }
 
 // Reads an open sheet. There is room for more bytes than a sheet may have, so that one that is too long is seen to be.
-fn read_open(fd: i32) -> SheetRead {
+fn read_open<R: Read>(file: &mut R) -> io::Result<SheetRead> {
     let mut bytes = [0u8; 20000];
     let mut table = [0u32; 4096];
-    let n = io::read_full(fd, &mut bytes);
-    read_sheet(&bytes[..n], &mut table)
+    let n = files_read::fill(file, &mut bytes)?;
+    Ok(read_sheet(&bytes[..n], &mut table))
 }
 
 // The line of the sheet in the file of that name.
-fn show_sheet(name: &[u8]) {
-    let fd = os::open_read(name);
-    if fd < 0 {
-        os::fail(name);
-        return;
-    }
-    show(name);
-    show_answer(read_open(fd));
-    libc::close(fd);
+fn show_sheet<R: Files + Print + Eprint>(rt: &R, name: &[u8]) -> io::Result<()> {
+    let Some(mut file) = files_read::open(rt, name)? else {
+        return Ok(());
+    };
+    let mut out = io::writer(rt);
+    show(&mut out, name)?;
+    show_answer(&mut out, read_open(&mut file)?)
 }
 
 // The line of the sheet whose name stands at a place, and the place of the next name.
-fn show_next(names: &[u8], at: usize) -> usize
+fn show_next<R: Files + Print + Eprint>(rt: &R, names: &[u8], at: usize) -> io::Result<usize>
     requires { at < length names.now }
-    ensures { at < result }
+    ensures { IfOk result (λ next. at < next) }
 {
     let end = text::field_end(names, at);
-    show_sheet(&names[at..end]);
-    end + 1
+    show_sheet(rt, &names[at..end])?;
+    Ok(end + 1)
 }
 
 // The lines of all sheets, in the order of their names.
-fn show_all(names: &[u8]) {
+fn show_all<R: Files + Print + Eprint>(rt: &R, names: &[u8]) -> io::Result<()> {
     let mut at: usize = 0;
     while at < names.len() {
-        at = show_next(names, at);
+        at = show_next(rt, names, at)?;
     }
+    Ok(())
 }
 
 // The lines of an open index of at most 8,192 bytes.
-fn show_index(fd: i32) {
+fn show_index<R: Files + Print + Eprint>(rt: &R, index: &mut R::File) -> io::Result<()> {
     let mut bytes = [0u8; 8192];
-    let n = io::read_full(fd, &mut bytes);
-    show_all(&bytes[..n]);
+    let n = files_read::fill(index, &mut bytes)?;
+    show_all(rt, &bytes[..n])
 }
 
-fn main() {
-    let fd = os::open_read(b"index");
-    if fd < 0 {
-        os::fail(b"index");
-        return;
-    }
-    show_index(fd);
-    libc::close(fd);
+fn main(rt: HostRuntime) -> io::Result<()> {
+    let Some(mut index) = files_read::open(&rt, b"index")? else {
+        return Ok(());
+    };
+    show_index(&rt, &mut index)
 }

@@ -1,46 +1,50 @@
 // How the programs of whole calls print one: a name, the answer's number, its count, line, record, byte and kind, the number that was given, and the bytes of the buffer that was written.
 #![tactic(auto)]
 
-use answer::{Answer, number_of, values_of};
-use libc::STDOUT_FILENO;
+ghost use Rattle.std.specs.Prelude.{OnOk};
+ghost use Rattle.std.specs.Io.KnownBytes.{Appends};
 
-pub fn show(text: &[u8]) {
-    io::write_all(STDOUT_FILENO, text);
+use answer::{Answer, number_of, values_of};
+use std::io;
+use std::io::Write;
+
+// Prints the bytes of a text.
+pub fn show<W: Write>(out: &mut W, text: &[u8]) -> io::Result<()>
+    ensures { OnOk result (Appends (W.contents out.old) (W.contents out.new) text.now) }
+{
+    out.write_all(text)
 }
 
-fn show_number(n: u64) {
-    show(b"\t");
-    io::print_decimal(STDOUT_FILENO, n);
+fn show_number<W: Write>(out: &mut W, n: u64) -> io::Result<()> {
+    write!(out, "\t{n}")
 }
 
 // An answer's number, count, line, record, byte and kind, and of the number that was given which it is and its magnitude or bits.
-pub fn show_answer(a: Answer) {
+pub fn show_answer<W: Write>(out: &mut W, a: Answer) -> io::Result<()> {
     let v = values_of(a);
-    show_number(number_of(a) as u64);
-    show_number(v.count);
-    show_number(v.line as u64);
-    show_number(v.record as u64);
-    show_number(v.at as u64);
-    show_number(v.kind as u64);
-    show_number(v.given as u64);
-    show_number(v.magnitude);
+    show_number(out, number_of(a) as u64)?;
+    show_number(out, v.count)?;
+    show_number(out, v.line as u64)?;
+    show_number(out, v.record as u64)?;
+    show_number(out, v.at as u64)?;
+    show_number(out, v.kind as u64)?;
+    show_number(out, v.given as u64)?;
+    show_number(out, v.magnitude)
 }
 
-fn show_byte(b: u8, first: bool) {
+fn show_byte<W: Write>(out: &mut W, b: u8, first: bool) -> io::Result<()> {
     if first {
-        show(b"\t");
+        show(out, b"\t")?;
     } else {
-        show(b" ");
+        show(out, b" ")?;
     }
-    io::print_hex(STDOUT_FILENO, b as u64, 2);
+    write!(out, "{b:02x}")
 }
 
 // The bytes of a buffer, and the end of the line.
-pub fn show_bytes(bytes: &[u8]) {
-    let mut i: usize = 0;
-    while i < bytes.len() {
-        show_byte(bytes[i], i == 0);
-        i += 1;
+pub fn show_bytes<W: Write>(out: &mut W, bytes: &[u8]) -> io::Result<()> {
+    for (i, b) in bytes.iter().enumerate() {
+        show_byte(out, *b, i == 0)?;
     }
-    show(b"\n");
+    show(out, b"\n")
 }

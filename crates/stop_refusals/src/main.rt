@@ -3,9 +3,11 @@
 
 use convert::{convert_copying, convert_copying_plain, convert_in_place, convert_in_place_plain};
 use shown::{show, show_answer, show_bytes};
+use std::io;
+use std::io::Write;
 
-fn case_1() {
-    show(b"8 stop in record 1");
+fn case_1<W: Write>(out: &mut W) -> io::Result<()> {
+    show(out, b"8 stop in record 1")?;
     let mut written = [0x55u8, 0x66];
     let mut table = [7u32; 8192];
     let a = convert_copying(
@@ -17,12 +19,12 @@ fn case_1() {
         &mut written,
         &mut table,
     );
-    show_answer(a);
-    show_bytes(&written);
+    show_answer(out, a)?;
+    show_bytes(out, &written)
 }
 
-fn case_2() {
-    show(b"8 stop in place");
+fn case_2<W: Write>(out: &mut W) -> io::Result<()> {
+    show(out, b"8 stop in place")?;
     let mut written = [0x01u8, 0x02, 0x03, 0x04, 0x05, 0x06, 0x70, 0x08];
     let mut table = [7u32; 8192];
     let a = convert_in_place(
@@ -34,12 +36,12 @@ fn case_2() {
         b"\x00\x00",
         &mut table,
     );
-    show_answer(a);
-    show_bytes(&written);
+    show_answer(out, a)?;
+    show_bytes(out, &written)
 }
 
-fn case_3() {
-    show(b"8 stop at the smallest number");
+fn case_3<W: Write>(out: &mut W) -> io::Result<()> {
+    show(out, b"8 stop at the smallest number")?;
     let mut written = [0x55u8];
     let mut table = [7u32; 8192];
     let a = convert_copying(
@@ -51,12 +53,12 @@ fn case_3() {
         &mut written,
         &mut table,
     );
-    show_answer(a);
-    show_bytes(&written);
+    show_answer(out, a)?;
+    show_bytes(out, &written)
 }
 
-fn case_4() {
-    show(b"8 stop at a real");
+fn case_4<W: Write>(out: &mut W) -> io::Result<()> {
+    show(out, b"8 stop at a real")?;
     let mut written = [0x55u8];
     let mut table = [7u32; 8192];
     let a = convert_copying(
@@ -68,12 +70,12 @@ fn case_4() {
         &mut written,
         &mut table,
     );
-    show_answer(a);
-    show_bytes(&written);
+    show_answer(out, a)?;
+    show_bytes(out, &written)
 }
 
-fn case_5() {
-    show(b"8 stop without handling");
+fn case_5<W: Write>(out: &mut W) -> io::Result<()> {
+    show(out, b"8 stop without handling")?;
     let mut written = [0x55u8, 0x66];
     let mut table = [7u32; 8192];
     let a = convert_copying_plain(
@@ -84,12 +86,12 @@ fn case_5() {
         &mut written,
         &mut table,
     );
-    show_answer(a);
-    show_bytes(&written);
+    show_answer(out, a)?;
+    show_bytes(out, &written)
 }
 
-fn case_6() {
-    show(b"8 stop in place without handling");
+fn case_6<W: Write>(out: &mut W) -> io::Result<()> {
+    show(out, b"8 stop in place without handling")?;
     let mut written = [0x01u8, 0xff];
     let mut table = [7u32; 8192];
     let a = convert_in_place_plain(
@@ -100,12 +102,12 @@ fn case_6() {
         b"\x55\x66",
         &mut table,
     );
-    show_answer(a);
-    show_bytes(&written);
+    show_answer(out, a)?;
+    show_bytes(out, &written)
 }
 
-fn case_7() {
-    show(b"8 stop by a word");
+fn case_7<W: Write>(out: &mut W) -> io::Result<()> {
+    show(out, b"8 stop by a word")?;
     let mut written = [0x55u8, 0x66];
     let mut table = [7u32; 8192];
     let a = convert_copying(
@@ -117,16 +119,17 @@ fn case_7() {
         &mut written,
         &mut table,
     );
-    show_answer(a);
-    show_bytes(&written);
+    show_answer(out, a)?;
+    show_bytes(out, &written)
 }
 
-fn main() {
-    case_1();
-    case_2();
-    case_3();
-    case_4();
-    case_5();
-    case_6();
-    case_7();
+fn main(rt: HostRuntime) -> io::Result<()> {
+    let mut out = io::writer(&rt);
+    case_1(&mut out)?;
+    case_2(&mut out)?;
+    case_3(&mut out)?;
+    case_4(&mut out)?;
+    case_5(&mut out)?;
+    case_6(&mut out)?;
+    case_7(&mut out)
 }
