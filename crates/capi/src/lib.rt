@@ -1,4 +1,4 @@
-// The calls for C: an answer and a layout are eight words each, lent by one pointer; a slice is a pointer and a length.
+// The calls over numbers: an answer and a layout are eight words each. The crate capi_c exports them to C.
 #![tactic(auto)]
 
 ghost use Rattle.std.specs.Prelude.{length};
@@ -12,8 +12,7 @@ use answer_words::give;
 pub mod setters;
 
 // Copying: the destination's own bytes are the background.
-#[unsafe(no_mangle)]
-pub extern "C" fn yirvagul_convert_copying(
+pub fn yirvagul_convert_copying(
     source_sheet: &[u8],
     destination_sheet: &[u8],
     count: u64,
@@ -38,8 +37,7 @@ pub extern "C" fn yirvagul_convert_copying(
 }
 
 // Copying, without handling: it stops.
-#[unsafe(no_mangle)]
-pub extern "C" fn yirvagul_convert_copying_plain(
+pub fn yirvagul_convert_copying_plain(
     source_sheet: &[u8],
     destination_sheet: &[u8],
     count: u64,
@@ -62,8 +60,7 @@ pub extern "C" fn yirvagul_convert_copying_plain(
 }
 
 // In place: one buffer, and a separate background.
-#[unsafe(no_mangle)]
-pub extern "C" fn yirvagul_convert_in_place(
+pub fn yirvagul_convert_in_place(
     source_sheet: &[u8],
     destination_sheet: &[u8],
     count: u64,
@@ -88,8 +85,7 @@ pub extern "C" fn yirvagul_convert_in_place(
 }
 
 // In place, without handling: it stops.
-#[unsafe(no_mangle)]
-pub extern "C" fn yirvagul_convert_in_place_plain(
+pub fn yirvagul_convert_in_place_plain(
     source_sheet: &[u8],
     destination_sheet: &[u8],
     count: u64,
@@ -112,8 +108,7 @@ pub extern "C" fn yirvagul_convert_in_place_plain(
 }
 
 // Writes the leaf list of a sheet.
-#[unsafe(no_mangle)]
-pub extern "C" fn yirvagul_leaf_list(
+pub fn yirvagul_leaf_list(
     sheet: &[u8],
     list: &mut [u8],
     table: &mut [u32],
@@ -126,8 +121,7 @@ pub extern "C" fn yirvagul_leaf_list(
 }
 
 // Answers the size of one record of a sheet's type.
-#[unsafe(no_mangle)]
-pub extern "C" fn yirvagul_record_size(sheet: &[u8], table: &mut [u32], words: &mut [u64; 8]) -> u32
+pub fn yirvagul_record_size(sheet: &[u8], table: &mut [u32], words: &mut [u64; 8]) -> u32
     ensures { Answered (size_answer_of sheet.now (length table.old)) table.old result words.new table.new }
 {
     let a = record_size::record_size(sheet, table);
@@ -135,8 +129,7 @@ pub extern "C" fn yirvagul_record_size(sheet: &[u8], table: &mut [u32], words: &
 }
 
 // Adds a log to a report.
-#[unsafe(no_mangle)]
-pub extern "C" fn yirvagul_report(
+pub fn yirvagul_report(
     source_sheet: &[u8],
     reader_sheet: &[u8],
     count: u64,
@@ -163,8 +156,7 @@ pub extern "C" fn yirvagul_report(
 }
 
 // Compares two logs.
-#[unsafe(no_mangle)]
-pub extern "C" fn yirvagul_compare(
+pub fn yirvagul_compare(
     first_sheet: &[u8],
     second_sheet: &[u8],
     count: u64,
@@ -181,8 +173,7 @@ pub extern "C" fn yirvagul_compare(
 }
 
 // Marks the bits of a source record that a conversion can turn on.
-#[unsafe(no_mangle)]
-pub extern "C" fn yirvagul_reach(
+pub fn yirvagul_reach(
     source_sheet: &[u8],
     destination_sheet: &[u8],
     mask: &mut [u8],
