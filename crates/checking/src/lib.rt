@@ -77,6 +77,7 @@ pub fn check_records(
 }
 
 // Checks 5 and 12 before them: the path and the symbols.
+#[inline(never)]
 pub fn check_types(
     in_place: bool,
     source_sheet: &[u8],

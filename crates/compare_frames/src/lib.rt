@@ -75,6 +75,7 @@ fn list_planned(
 }
 
 // A plan of at most 128 entries. The plan is made once, and then the list goes by it.
+#[inline(never)]
 fn compare_small(
     x: TypedLogs,
     list: &mut [u8],
@@ -125,6 +126,7 @@ fn compare_small(
 }
 
 // A plan of at most 4,096 entries. It says again what compare_small says, as convert's functions of the two sizes do.
+#[inline(never)]
 fn compare_large(
     x: TypedLogs,
     list: &mut [u8],

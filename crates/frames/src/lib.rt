@@ -103,6 +103,7 @@ fn look(
 
 // A plan of at most 128 entries. The plan is made once, and then the records go by it; where members have words, it may be that one to fewer leaves is made
 // in the same arrays before it.
+#[inline(never)]
 fn convert_small(
     x: Conversion,
     source_sheet: &[u8],
@@ -164,6 +165,7 @@ fn convert_small(
 
 // A plan of at most 4,096 entries. It says again what convert_small says: a part that both shared would leave two functions so short that the compiler would put them,
 // and the larger arrays with them, into every caller.
+#[inline(never)]
 fn convert_large(
     x: Conversion,
     source_sheet: &[u8],

@@ -75,6 +75,7 @@ named_number x ts (s, m, e) = go ts m
         at : (t : Bool) → ((w : ℤ) × (number_of x us ≡ some w)) → (w : ℤ) × (cond t (some u.number) (number_of x us) ≡ some w)
         at true later = (u.number, refl)
         at false later = later
+    go [] x3 = elim x3 [ ]
 
 first_symbol : (s : Symbol) (ss : List Symbol) → symbol_of s.number (s ∷ ss) ≡ some s.name
 unfolding symbol_of

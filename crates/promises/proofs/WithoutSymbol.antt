@@ -37,6 +37,7 @@ named_number x (t ∷ ts) s (Memᴰ.tail m) e = go (same x t.name) (named_number
     go : (b : Bool) → (w : ℤ) × (number_of x ts ≡ some w) → (w : ℤ) × (cond b (some t.number) (number_of x ts) ≡ some w)
     go true n = (t.number, refl)
     go false n = n
+named_number x [] s x3 e = elim x3 [ ]
 
 module _ (l k : Layout) (ss ts : List Symbol) (z : ℤ) (f : WellFormedLeaf (enumeration k ts)) (keeps : (x : List ℕ) → Named x ss → Named x ts) where
   -- the kind, by the destination's number and by the source's symbol

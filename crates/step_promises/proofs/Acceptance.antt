@@ -27,7 +27,7 @@ use Rattle.step_promises.proofs.Composition.{by_whole}
 
 -- ---- paths go on
 
-path_on : {A B C : Datatype} → HasPath B C → HasPath A B → SameNames A B C → HasPath A C
+path_on : {B C A : Datatype} → HasPath B C → HasPath A B → SameNames A B C → HasPath A C
 path_on (same_class e) (same_class f) names = same_class (f ∙ e)
 path_on (same_class e) (real_to_int_lem f) names = real_to_int_lem (sym e ∙ f)
 path_on enums enums names = enums

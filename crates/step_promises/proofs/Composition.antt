@@ -29,7 +29,7 @@ record OnWay (T S D : Datatype) (a b : ℕ) (x y : Leaf) : Type 0 where
   to_first : Way T S at a leaf x
   to_last : Way T D at b leaf y
 
-on_way : {T S D : Datatype} {a b : ℕ} {x y : Leaf} → Way S D a b x y → HasPath T D → Reaches T S D → OnWay T S D a b x y
+on_way : {S D T : Datatype} {a b : ℕ} {x y : Leaf} → Way S D a b x y → HasPath T D → Reaches T S D → OnWay T S D a b x y
 on_way here (same_class {l} e) names = record { at = 0; leaf = _; to_first = here; to_last = here }
 on_way here enums names = record { at = 0; leaf = _; to_first = here; to_last = here }
 on_way here (int_to_real_lem e) names = record { at = 0; leaf = _; to_first = here; to_last = here }

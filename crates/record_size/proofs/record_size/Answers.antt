@@ -8,7 +8,7 @@ use borrow.Author.Rules.{rules}
 use Rattle.record_size.proofs.record_size.Goals as goal
 
 pub returns-then-table-lt-TABLE : goal.returns-then-table-lt-TABLE
-returns-then-table-lt-TABLE c = (short_answer c.args.sheet.now _ (search rules), refl)
+returns-then-table-lt-TABLE c = record { answer = short_answer c.args.sheet.now _ (search rules); table = refl }
 
 pub slice_bounds-sheet_size-end-2 : goal.slice_bounds-sheet_size-end-2
 slice_bounds-sheet_size-end-2 c = sym (length-take-le 4096 c.args.table.now (omega arith))
@@ -19,7 +19,8 @@ sheet_size-a-requires c = length-take-le 4096 c.args.table.now (omega arith)
 pub returns : goal.returns
 returns c =
     let l = c.sheet_size-a in
-    let a = c.args in (
-      long_answer a.sheet.now _ (search rules) l.ensures,
-      c.clear.ensures ∙ table_done a.table.now l.new.1.0 (sheet_of a.sheet.now) l.ensures (l.auto.1.0 ∙ length-take-le 4096 a.table.now (omega arith)),
-    )
+    let a = c.args in
+    record {
+      answer = long_answer a.sheet.now _ (search rules) l.ensures;
+      table = c.clear.ensures ∙ table_done a.table.now l.new.half (sheet_of a.sheet.now) l.ensures (l.auto.half ∙ length-take-le 4096 a.table.now (omega arith));
+    }

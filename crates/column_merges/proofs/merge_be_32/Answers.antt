@@ -1,0 +1,14 @@
+-- `column_merges::merge_be_32` meets its contract. Assumes nothing.
+use mathlib.Core.Path.{◌≡◌}
+use borrow.Author.Rules.{rules}
+use Rattle.column_merges.proofs.merge_be_32.Goals as goal
+
+pub returns-in-2 : goal.returns-in-2
+returns-in-2 c =
+    let e : c.args.size ≡ 2 = search rules in
+    rw e c.merge_be2_32.ensures
+
+pub returns-in-4 : goal.returns-in-4
+returns-in-4 c =
+    let e : c.args.size ≡ 4 = search rules in
+    rw e c.merge_be4_32.ensures

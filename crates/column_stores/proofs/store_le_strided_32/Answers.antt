@@ -1,0 +1,19 @@
+-- `column_stores::store_le_strided_32` meets its contract. Assumes nothing.
+use mathlib.Core.Path.{◌≡◌}
+use borrow.Author.Rules.{rules}
+use Rattle.column_stores.proofs.store_le_strided_32.Goals as goal
+
+pub returns-in-1 : goal.returns-in-1
+returns-in-1 c =
+    let e : c.args.size ≡ 1 = search rules in
+    rw e c.store_le1_32.ensures
+
+pub returns-in-2 : goal.returns-in-2
+returns-in-2 c =
+    let e : c.args.size ≡ 2 = search rules in
+    rw e c.store_le2_32.ensures
+
+pub returns-in-4 : goal.returns-in-4
+returns-in-4 c =
+    let e : c.args.size ≡ 4 = search rules in
+    rw e c.store_le4_32.ensures

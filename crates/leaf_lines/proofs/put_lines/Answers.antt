@@ -1,0 +1,17 @@
+-- `leaf_lines::put_lines` meets its contract. Assumes nothing.
+use borrow.Author.Rules.{rules}
+use Prim.Native.Nat.{◌-◌}
+use Rattle.leaf_lines.proofs.Lines.{writing_start, line_room, writing_next, writing_done}
+use Rattle.leaf_lines.proofs.put_lines.Goals as goal
+
+pub loop-byte-init : goal.loop-byte-init
+loop-byte-init c = search (rules, writing_start)
+
+pub put_leaf-at-requires : goal.put_leaf-at-requires
+put_leaf-at-requires c = search (rules, line_room)
+
+pub loop-byte-preserved : goal.loop-byte-preserved
+loop-byte-preserved c = search (rules, writing_next)
+
+pub returns : goal.returns
+returns c = search (rules, writing_done)

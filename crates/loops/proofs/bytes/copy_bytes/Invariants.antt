@@ -1,0 +1,12 @@
+-- `loops::bytes::copy_bytes` meets its contract. The loop's invariant: the first j bytes are copied. Assumes nothing.
+use mathlib.Core.Path.{◌≡◌}
+use mathlib.Core.List.{◌++◌}
+use Prim.Native.Nat.{◌≤◌, ◌-◌}
+use lib.ListN.{length, take, drop}
+use Rattle.loops.proofs.bytes.copy_bytes.Given as goal
+
+abbrev pub invariant-loop-j : goal.invariant-loop-j
+invariant-loop-j l = (l.j ≤ l.n) × (length l.dst ≡ length l.initial.dst) × (l.dst ≡ take l.j l.src ++ drop l.j l.initial.dst)
+
+abbrev pub decreases-loop-j : goal.decreases-loop-j
+decreases-loop-j l = l.n - l.j

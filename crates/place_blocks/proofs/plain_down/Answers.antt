@@ -1,0 +1,97 @@
+-- `place_blocks::plain_down` meets its contract. The loop's invariant: from where record i goes the buffer is the result's, up to source record i as it was. Assumes nothing.
+use mathlib.Core.Path.{◌≡◌, refl, ◌∙◌}
+use Prim.Native.Nat.{◌≤◌, ◌-◌, ◌+◌}
+use native.Mathlib.Nat.{mul-le-mul_left, add-mul}
+use native.Mathlib.Omega.{arith}
+use Rattle.column_slots.proofs.Slots.{kept_none}
+use Rattle.loops.proofs.Jobs.{source_most}
+use Rattle.loops.proofs.PlaceTurns.{down_start}
+use Rattle.blocks.proofs.BlockTurns.{block_rows, job_ready}
+use Rattle.place_blocks.proofs.Placed.{destination_most, down_placed}
+use Rattle.blocks.proofs.Counted.{source_some, all_most}
+use Rattle.place_blocks.proofs.plain_down.Goals as goal
+
+pub staged_at_once-at_once-requires : goal.staged_at_once-at_once-requires
+staged_at_once-at_once-requires c = (source_some c.requires.0, source_most c.requires.0)
+
+pub is_whole-whole-requires : goal.is_whole-whole-requires
+is_whole-whole-requires c = c.requires.0.room
+
+pub loop-i-init : goal.loop-i-init
+loop-i-init c =
+    let a = c.args in
+    (omega arith, refl, refl, refl, refl, refl, kept_none a.source_half.now a.destination_half.now, λ j. down_start j.source j.destination j.source_formed j.destination_formed a.source_size a.destination_size j.source_size j.destination_size a.count a.buf.now a.background.now (omega arith) (omega arith))
+
+pub last_records-k-requires : goal.last_records-k-requires
+last_records-k-requires c =
+    let at_once = c.staged_at_once-at_once.ensures in
+    let size = source_some c.requires.0 in
+    (c.loop-i-test.true, omega (arith, c.loop-i.invariant.0, c.requires.4), at_once.0, at_once.1, source_most c.requires.0, omega (arith, size, c.requires.5), destination_most c.requires.0)
+
+pub replace_records-raised-requires : goal.replace_records-raised-requires
+replace_records-raised-requires c =
+    let a = c.args in
+    let l = c.loop-i in
+    let k = c.last_records-k.result in
+    let last = c.last_records-k.ensures in
+    let at_once = c.staged_at_once-at_once.ensures in
+    let low : a.source_size ≤ a.destination_size = c.requires.5 in
+    let back : (l.i - k) + k ≡ l.i = omega (arith, last.1) in
+    let within : (l.i - k) + k ≤ a.count = omega (arith, last.1, l.invariant.0) in
+    let rows = block_rows (l.i - k) k a.count a.source_size within in
+    let sources = add-mul (l.i - k) k a.source_size in
+    let tabled = c.requires.1 _ _ (job_ready c.requires.0) in
+    let places = block_rows (l.i - k) k a.count a.destination_size within in (
+      (a.words.now, job_ready c.requires.0, tabled.1, tabled.0),
+      c.requires.2,
+      c.requires.3,
+      l.invariant.6,
+      omega arith,
+      omega (arith, within, c.requires.4),
+      omega arith,
+      omega arith,
+      (at_once.0, at_once.1, omega (arith, at_once.2)),
+      omega (arith, rows, mul-le-mul_left a.count low),
+      omega (arith, places),
+      omega (arith, places),
+      c.is_whole-whole.ensures,
+      (λ more. omega (arith, rw back at sources, last.2 more)),
+    )
+
+pub overflow_add-raised : goal.overflow_add-raised
+overflow_add-raised c =
+    let counted : c.loop-i.raised + c.replace_records-raised.result ≤ 268435456 =
+    let a = c.args in let l = c.loop-i in let k = c.last_records-k.result in let o = c.replace_records-raised in let few = c.last_records-k.ensures.1 in let within : (l.i - k) + k ≤ a.count = omega (arith, few, l.invariant.0) in let back : l.i ≡ (l.i - k) + k = omega (arith, few) in let turned = down_placed c.requires.0 a.count a.buf.now a.background.now c.requires.8 (l.i - k) k l.raised o.result l.buf _ within l.invariant.1 (λ t. o.ensures.0 a.words.now t (c.requires.1 _ _ t).1 (c.requires.1 _ _ t).0) c.requires.7 c.requires.5 (rw back at (l.invariant.7 c.requires.0)) in omega (arith, turned.2, all_most c.requires.0 a.buf.now a.count, c.requires.4) in
+    omega (arith, counted)
+
+pub loop-i-preserved : goal.loop-i-preserved
+loop-i-preserved c =
+    let a = c.args in
+    let l = c.loop-i in
+    let k = c.last_records-k.result in
+    let o = c.replace_records-raised in
+    let few = c.last_records-k.ensures.1 in
+    let within : (l.i - k) + k ≤ a.count = omega (arith, few, l.invariant.0) in
+    let back : l.i ≡ (l.i - k) + k = omega (arith, few) in (
+      omega (arith, within),
+      o.auto.buf ∙ l.invariant.1,
+      o.auto.staging ∙ l.invariant.2,
+      o.auto.slots ∙ l.invariant.3,
+      o.auto.narrow ∙ l.invariant.4,
+      o.auto.wide ∙ l.invariant.5,
+      o.ensures.1,
+      λ j. down_placed j a.count a.buf.now a.background.now c.requires.8 (l.i - k) k l.raised o.result l.buf _ within l.invariant.1 (λ t. o.ensures.0 a.words.now t (c.requires.1 _ _ t).1 (c.requires.1 _ _ t).0) c.requires.7 c.requires.5 (rw back at (l.invariant.7 j)),
+    )
+
+pub shape_of-buf : goal.shape_of-buf
+shape_of-buf c = c.loop-i.invariant.1
+
+pub shape_of-staging : goal.shape_of-staging
+shape_of-staging c = c.loop-i.invariant.2
+
+pub returns : goal.returns
+returns c =
+    let a = c.args in
+    let l = c.loop-i in
+    let end : a.count - a.count ≡ l.i = omega arith in
+    (omega arith, λ j. rw end (l.invariant.7 j))

@@ -1,0 +1,16 @@
+-- `plan_making::make_plan` meets its contract. Assumes nothing.
+use mathlib.Core.Path.{refl}
+use Rattle.plan_making.proofs.Making.{entries_asked, names_asked, plan_made}
+use Rattle.plan_making.proofs.make_plan.Goals as goal
+
+pub plan-entries-requires : goal.plan-entries-requires
+plan-entries-requires c = (c.requires.0.source, c.requires.0.destination, c.requires.1.for_entries)
+
+pub put_entries-requires : goal.put_entries-requires
+put_entries-requires c = entries_asked c.args.source_sheet.now c.args.source_half.now c.args.source_type c.args.destination_sheet.now c.args.destination_half.now c.args.destination_type c.requires.0 _ c.requires.0.destination refl c.args.plan.now _ _ c.plan-entries.ensures c.args.words.now c.requires.1
+
+pub put_names-requires : goal.put_names-requires
+put_names-requires c = names_asked c.args.source_sheet.now c.args.source_half.now c.args.source_type c.args.destination_sheet.now c.args.destination_half.now c.args.destination_type c.requires.0 _ c.requires.0.destination refl c.args.plan.now _ _ c.plan-entries.ensures c.args.words.now c.requires.1 _ c.put_entries.ensures
+
+pub returns : goal.returns
+returns c = plan_made c.args.source_sheet.now c.args.source_half.now c.args.source_type c.args.destination_sheet.now c.args.destination_half.now c.args.destination_type c.requires.0 _ c.requires.0.destination refl c.args.plan.now _ _ c.plan-entries.ensures c.args.words.now c.requires.1 _ c.put_entries.ensures _ c.put_names.ensures
