@@ -46,7 +46,7 @@ def build_wheel(wheel_directory, config_settings=None, metadata_directory=None):
 def _shared_object():
     path = pathlib.Path(os.environ.get("YIRVAGUL_SO") or _here.parents[1] / "target/python/libyirvagul.so")
     if not path.exists():
-        raise FileNotFoundError(f"no shared object {path}: run `rt staticlib capi` and then `bindings/python/build`")
+        raise FileNotFoundError(f"no shared object {path}: run `bindings/archive` and then `bindings/python/build`")
     return path.read_bytes()
 
 

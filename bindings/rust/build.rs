@@ -1,4 +1,4 @@
-//! Links libcapi.a: the file that YIRVAGUL_LIB names, or the one that `rt staticlib capi` writes.
+//! Links libcapi.a: the file that YIRVAGUL_LIB names, or the one that `bindings/archive` writes.
 use std::{env, fs, path::Path};
 
 fn main() {
@@ -8,7 +8,7 @@ fn main() {
     let out = env::var("OUT_DIR").expect("cargo sets it");
     if let Err(e) = fs::copy(&library, Path::new(&out).join("libcapi.a")) {
         panic!(
-            "{}: {e}: run `rt staticlib capi`, or name the archive by YIRVAGUL_LIB",
+            "{}: {e}: run `bindings/archive`, or name the archive by YIRVAGUL_LIB",
             library.display()
         );
     }

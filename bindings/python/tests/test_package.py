@@ -165,7 +165,7 @@ class Build(unittest.TestCase):
             pathlib.Path(garbage).write_bytes(b"no archive")
             subprocess.run(["ar", "rc", empty], check=True)
             for archive, words in (
-                (os.path.join(folder, "none.a"), "none.a: run `rt staticlib capi` first"),
+                (os.path.join(folder, "none.a"), "none.a: run `bindings/archive` first"),
                 (garbage, "garbage.a"),
                 (empty, "lacks yirvagul_convert_copying"),
             ):

@@ -28,7 +28,7 @@ try:
     _library = ctypes.CDLL(FILE)
 except OSError as error:
     raise ImportError(
-        f"yirvagul has no shared object ({error}): in the repository run `rt staticlib capi` and then `bindings/python/build`, "
+        f"yirvagul has no shared object ({error}): in the repository run `bindings/archive` and then `bindings/python/build`, "
         "or set YIRVAGUL_SO to the path of one"
     ) from None
 
@@ -39,7 +39,7 @@ def _declare(name: str, arguments: Sequence[Any]) -> Any:
     except AttributeError:
         raise ImportError(
             f"{FILE} lacks yirvagul_{name}, so it is of another version than this module: "
-            "in the repository run `rt staticlib capi` and then `bindings/python/build`"
+            "in the repository run `bindings/archive` and then `bindings/python/build`"
         ) from None
     function.argtypes = arguments
     function.restype = ctypes.c_uint32
