@@ -25,10 +25,8 @@ fn same_bytes(a: &[u8], b: &[u8], n: usize) -> bool
     let x = &a[..n];
     let y = &b[..n];
     let mut other: u8 = 0;
-    let mut j: usize = 0;
-    while j < n {
+    for j in 0..n {
         other = found(other, x[j], y[j]);
-        j += 1;
     }
     other == 0
 }

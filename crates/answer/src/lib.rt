@@ -43,7 +43,7 @@ pub const MINUS: u32 = 1;
 pub const REAL: u32 = 2;
 
 // The fields that document 01's table names beside an answer's number; a field that the table does not name is 0.
-#[derive(Clone, Copy)]
+#[derive(Clone, Copy, Default)]
 pub struct Values {
     pub count: u64,
     pub line: u32,
@@ -76,47 +76,13 @@ pub fn number_of(a: Answer) -> u32
     }
 }
 
-// A refusal without a place.
-fn bare() -> Values
-    ensures { result ≡ values_of Answer.Path }
-{
-    Values {
-        count: 0,
-        line: 0,
-        record: 0,
-        at: 0,
-        kind: 0,
-        given: 0,
-        magnitude: 0,
-    }
-}
-
-// A sheet's faulty line.
-fn at_line(line: u32) -> Values
-    ensures { result ≡ values_of (Answer.Source line) }
-{
-    Values {
-        count: 0,
-        line,
-        record: 0,
-        at: 0,
-        kind: 0,
-        given: 0,
-        magnitude: 0,
-    }
-}
-
 // Which number was given.
 fn given_sign(given: Given) -> u32
     ensures { result ≡ given_sign given }
 {
     match given {
-        Given::Whole(negative, _) => {
-            if negative {
-                return MINUS;
-            }
-            PLUS
-        }
+        Given::Whole(true, _) => MINUS,
+        Given::Whole(false, _) => PLUS,
         Given::Real(_) => REAL,
     }
 }
@@ -131,22 +97,6 @@ fn given_magnitude(given: Given) -> u64
     }
 }
 
-// The place of an exception, its kind, and the number that raised it.
-fn stopped(record: u32, at: u32, kind: u32, given: Given) -> Values
-    ensures { result ≡ values_of (Answer.Stop «record» at kind given) }
-{
-    let magnitude = given_magnitude(given);
-    Values {
-        count: 0,
-        line: 0,
-        record,
-        at,
-        kind,
-        given: given_sign(given),
-        magnitude,
-    }
-}
-
 // Every field beside an answer's number.
 pub fn values_of(a: Answer) -> Values
     ensures { result ≡ values_of a }
@@ -154,24 +104,28 @@ pub fn values_of(a: Answer) -> Values
     match a {
         Answer::Done(count) => Values {
             count,
-            line: 0,
-            record: 0,
-            at: 0,
-            kind: 0,
-            given: 0,
-            magnitude: 0,
+            ..Values::default()
         },
-        Answer::Source(line) => at_line(line),
-        Answer::Destination(line) => at_line(line),
-        Answer::Stop(record, at, kind, given) => stopped(record, at, kind, given),
-        Answer::Handling => bare(),
-        Answer::Table => bare(),
-        Answer::Path => bare(),
-        Answer::Count => bare(),
-        Answer::Room => bare(),
-        Answer::Range => bare(),
-        Answer::Channel => bare(),
-        Answer::Full => bare(),
-        Answer::Symbols => bare(),
+        Answer::Source(line) | Answer::Destination(line) => Values {
+            line,
+            ..Values::default()
+        },
+        Answer::Stop(record, at, kind, given) => Values {
+            record,
+            at,
+            kind,
+            given: given_sign(given),
+            magnitude: given_magnitude(given),
+            ..Values::default()
+        },
+        Answer::Handling
+        | Answer::Table
+        | Answer::Path
+        | Answer::Count
+        | Answer::Room
+        | Answer::Range
+        | Answer::Channel
+        | Answer::Full
+        | Answer::Symbols => Values::default(),
     }
 }

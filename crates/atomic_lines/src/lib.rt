@@ -1,117 +1,67 @@
 // The columns of a layout, and the lines of an int, of a bits and of a real from behind their first word.
 #![tactic(auto)]
 
-ghost use Rattle.std.specs.Prelude.{◌≡◌};
+ghost use Rattle.std.specs.Prelude.{◌≡◌, option_map};
 ghost use Rattle.line.specs.Line.{int_line, bits_line, real_line_of};
-ghost use Rattle.line.specs.Column.{place_at, pads_at, layout_at, signed_as};
+ghost use Rattle.line.specs.Column.{layout_at};
 ghost use Rattle.line.specs.Read.{Reads, columns_reading, plain_line};
 
 use bits::{BitAt, ByteAt};
 use layout::{Class, Layout};
-use line::{
-    LayoutColumns, Line, Next, OrderColumn, PadColumn, PadColumns, PlaceColumns, SignColumn,
-};
+use line::Line;
 use line_columns::{next_line, number_column, order_column, pad_column, sign_column};
 use text::Field;
 
-fn place_columns(s: &[u8], q: usize) -> PlaceColumns
-    ensures { result ≡ place_at s.now q }
-{
-    let Field::Number(size, a) = number_column(s, q) else {
-        return PlaceColumns::Fault;
-    };
-    let OrderColumn::Holds(order, b) = order_column(s, a) else {
-        return PlaceColumns::Fault;
-    };
-    let Field::Number(offset, c) = number_column(s, b) else {
-        return PlaceColumns::Fault;
-    };
-    let Field::Number(precision, next) = number_column(s, c) else {
-        return PlaceColumns::Fault;
-    };
-    PlaceColumns::Holds(size, order, offset, precision, next)
-}
-
-fn pad_columns(s: &[u8], q: usize) -> PadColumns
-    ensures { result ≡ pads_at s.now q }
-{
-    let PadColumn::Holds(lsb, a) = pad_column(s, q) else {
-        return PadColumns::Fault;
-    };
-    let PadColumn::Holds(msb, next) = pad_column(s, a) else {
-        return PadColumns::Fault;
-    };
-    PadColumns::Holds(lsb, msb, next)
-}
-
-// Size, order, offset, precision, lsb and msb.
-fn layout_columns(s: &[u8], q: usize, class: Class) -> LayoutColumns
+// Size, order, offset, precision, lsb and msb: an unsigned layout.
+fn layout_columns(s: &[u8], q: usize, class: Class) -> Option<Field<Layout>>
     ensures { result ≡ layout_at class s.now q }
 {
-    let PlaceColumns::Holds(size, order, offset, precision, a) = place_columns(s, q) else {
-        return LayoutColumns::Fault;
-    };
-    let PadColumns::Holds(lsb, msb, next) = pad_columns(s, a) else {
-        return LayoutColumns::Fault;
-    };
-    let layout = Layout {
+    let size = number_column(s, q)?;
+    let order = order_column(s, size.end)?;
+    let offset = number_column(s, order.end)?;
+    let precision = number_column(s, offset.end)?;
+    let lsb = pad_column(s, precision.end)?;
+    let msb = pad_column(s, lsb.end)?;
+    let value = Layout {
         class,
-        size: ByteAt(size as usize),
-        order,
-        offset: BitAt(offset),
-        precision,
-        lsb,
-        msb,
+        size: ByteAt(size.value as usize),
+        order: order.value,
+        offset: BitAt(offset.value),
+        precision: precision.value,
+        lsb: lsb.value,
+        msb: msb.value,
         signed: false,
     };
-    LayoutColumns::Holds(layout, next)
+    let end = msb.end;
+    Some(Field { value, end })
 }
 
-fn with_sign(mut l: Layout, signed: bool) -> Layout
-    ensures { result ≡ signed_as l signed }
+pub fn int_line(s: &[u8], q: usize) -> Option<Line>
+    ensures { Reads s.now (option_map plain_line result) (columns_reading s.now q int_line) }
 {
-    l.signed = signed;
-    l
+    let layout = layout_columns(s, q, Class::Int)?;
+    let sign = sign_column(s, layout.end)?;
+    let next = next_line(s, sign.end)?;
+    let layout = Layout {
+        signed: sign.value,
+        ..layout.value
+    };
+    Some(Line::Atomic(layout, next))
 }
 
-pub fn int_line(s: &[u8], q: usize) -> Line
-    ensures { Reads s.now (plain_line result) (columns_reading s.now q int_line) }
+pub fn bits_line(s: &[u8], q: usize) -> Option<Line>
+    ensures { Reads s.now (option_map plain_line result) (columns_reading s.now q bits_line) }
 {
-    let LayoutColumns::Holds(l, a) = layout_columns(s, q, Class::Int) else {
-        return Line::Fault;
-    };
-    let SignColumn::Holds(signed, b) = sign_column(s, a) else {
-        return Line::Fault;
-    };
-    let Next::At(next) = next_line(s, b) else {
-        return Line::Fault;
-    };
-    Line::Atomic(with_sign(l, signed), next)
+    let layout = layout_columns(s, q, Class::Bits)?;
+    let next = next_line(s, layout.end)?;
+    Some(Line::Atomic(layout.value, next))
 }
 
-pub fn bits_line(s: &[u8], q: usize) -> Line
-    ensures { Reads s.now (plain_line result) (columns_reading s.now q bits_line) }
+pub fn real_line(s: &[u8], q: usize) -> Option<Line>
+    ensures { Reads s.now (option_map plain_line result) (columns_reading s.now q real_line_of) }
 {
-    let LayoutColumns::Holds(l, a) = layout_columns(s, q, Class::Bits) else {
-        return Line::Fault;
-    };
-    let Next::At(next) = next_line(s, a) else {
-        return Line::Fault;
-    };
-    Line::Atomic(l, next)
-}
-
-pub fn real_line(s: &[u8], q: usize) -> Line
-    ensures { Reads s.now (plain_line result) (columns_reading s.now q real_line_of) }
-{
-    let Field::Number(size, a) = number_column(s, q) else {
-        return Line::Fault;
-    };
-    let OrderColumn::Holds(order, b) = order_column(s, a) else {
-        return Line::Fault;
-    };
-    let Next::At(next) = next_line(s, b) else {
-        return Line::Fault;
-    };
-    Line::Real(size, order, next)
+    let size = number_column(s, q)?;
+    let order = order_column(s, size.end)?;
+    let next = next_line(s, order.end)?;
+    Some(Line::Real(size.value, order.value, next))
 }

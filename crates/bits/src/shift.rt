@@ -9,10 +9,7 @@ pub fn shift_right(x: u64, k: u32) -> u64
     requires { k ≤ 64 }
     ensures { result ≡ x / 2 ^ k }
 {
-    if k == WORD_BITS {
-        return 0;
-    }
-    x >> k
+    if k == WORD_BITS { 0 } else { x >> k }
 }
 
 // 2 to the power k.
@@ -28,10 +25,7 @@ pub fn low_bits(x: u64, k: u32) -> u64
     requires { k ≤ 64 }
     ensures { (result ≡ x % 2 ^ k) × (result < 2 ^ k) }
 {
-    if k == WORD_BITS {
-        return x;
-    }
-    x % pow2(k)
+    if k == WORD_BITS { x } else { x % pow2(k) }
 }
 
 // high above k low bits, where both fit.
@@ -40,9 +34,10 @@ pub fn join(high: u64, k: u32, low: u64) -> u64
     ensures { result ≡ high * 2 ^ k + low }
 {
     if k == WORD_BITS {
-        return low;
+        low
+    } else {
+        (high << k) + low
     }
-    (high << k) + low
 }
 
 // k bits, all set.
@@ -51,7 +46,8 @@ pub fn ones(k: u32) -> u64
     ensures { result ≡ 2 ^ k - 1 }
 {
     if k == WORD_BITS {
-        return u64::MAX;
+        u64::MAX
+    } else {
+        pow2(k) - 1
     }
-    pow2(k) - 1
 }

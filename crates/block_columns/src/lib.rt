@@ -35,6 +35,7 @@ pub fn block(
 {
     let mut raised: u64 = 0;
     let mut i: usize = 0;
+    // A step may move a run of entries at once: no range has these steps.
     while i < entries {
         let moved = block_step(
             src,
@@ -90,8 +91,7 @@ pub fn block_raised(
     ensures { ((d : ℕ) (words : List ℕ) (p : Ready source_size d plan.now entries source_half.now destination_half.now words) → Columned tables.now plan.now entries words → TablesKept tables.now source_half.now p.source_text destination_half.now p.destination_text → result ≡ raised_over (entries_of p) source_size src.now count) × Kept slots.new source_half.now destination_half.now }
 {
     let mut raised: u64 = 0;
-    let mut i: usize = 0;
-    while i < entries {
+    for i in 0..entries {
         let leaf = entry(plan, i);
         raised += entry_raised(
             src,
@@ -105,7 +105,6 @@ pub fn block_raised(
             wide,
             tables,
         );
-        i += 1;
     }
     raised
 }

@@ -122,8 +122,7 @@ pub fn block_len(
         return 0;
     }
     let mut len: usize = 0;
-    let mut i = from;
-    while i < to {
+    for i in from..to {
         len += one_len(
             x,
             i,
@@ -137,7 +136,6 @@ pub fn block_len(
             second_half,
             words,
         );
-        i += 1;
     }
     len
 }
@@ -227,8 +225,7 @@ pub fn put_block(
         return at;
     }
     let mut next = at;
-    let mut k = from;
-    while k < to {
+    for k in from..to {
         next = put_one(
             x,
             k,
@@ -244,7 +241,6 @@ pub fn put_block(
             second_half,
             words,
         );
-        k += 1;
     }
     next
 }

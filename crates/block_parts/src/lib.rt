@@ -32,6 +32,7 @@ pub fn part_block(
 {
     let mut raised: u64 = 0;
     let mut i: usize = 0;
+    // A step is a block, of which the last may be shorter: a range with a step would say that no more plainly.
     while i < count {
         let k = least(BLOCK, count - i);
         raised += block(

@@ -7,12 +7,11 @@ ghost use Rattle.two_sheets.specs.TwoSheets.{ReadAs, Both};
 ghost use Rattle.conversion.specs.Call.{form_of, source_of, background_of, RecordsSay, TypesSay, SheetsSay};
 
 use answer::Answer;
-use conversion::Checks;
 use path_search::has_path;
 use symbol_sets::keeps_symbols;
 use table::read::type_word;
 use table::{HALF, SIZE};
-use two_sheets::{Sheets, read_sheets};
+use two_sheets::{TypeNumbers, read_sheets};
 
 // "6 COUNT: n above 65,536"
 const MOST_RECORDS: u64 = 65536;
@@ -54,12 +53,12 @@ pub fn check_records(
     source_type: usize,
     destination_half: &[u32],
     destination_type: usize,
-) -> Checks
+) -> Result<TypeNumbers, Answer>
     requires { (ss : List ℕ) × (ds : List ℕ) × Both ss source_half.now source_type ds destination_half.now destination_type }
     ensures { (ss ds : List ℕ) → Both ss source_half.now source_type ds destination_half.now destination_type → RecordsSay in_place ss ds count out other source_half.now source_type destination_half.now destination_type result }
 {
     if MOST_RECORDS < count {
-        return Checks::Refuse(Answer::Count);
+        return Err(Answer::Count);
     }
     let source_size = type_word(source_half, source_type, SIZE);
     let destination_size = type_word(destination_half, destination_type, SIZE);
@@ -71,9 +70,12 @@ pub fn check_records(
         out,
         other,
     ) {
-        return Checks::Refuse(Answer::Room);
+        return Err(Answer::Room);
     }
-    Checks::Pass(source_type, destination_type)
+    Ok(TypeNumbers {
+        source: source_type,
+        destination: destination_type,
+    })
 }
 
 // Checks 5 and 12 before them: the path and the symbols.
@@ -89,7 +91,7 @@ pub fn check_types(
     source_type: usize,
     destination_half: &[u32],
     destination_type: usize,
-) -> Checks
+) -> Result<TypeNumbers, Answer>
     requires { Both source_sheet.now source_half.now source_type destination_sheet.now destination_half.now destination_type }
     ensures { TypesSay in_place source_sheet.now destination_sheet.now count out other source_half.now source_type destination_half.now destination_type result }
 {
@@ -101,7 +103,7 @@ pub fn check_types(
         destination_sheet,
         destination_type,
     ) {
-        return Checks::Refuse(Answer::Path);
+        return Err(Answer::Path);
     }
     if !keeps_symbols(
         source_half,
@@ -111,7 +113,7 @@ pub fn check_types(
         destination_sheet,
         destination_type,
     ) {
-        return Checks::Refuse(Answer::Symbols);
+        return Err(Answer::Symbols);
     }
     check_records(
         in_place,
@@ -134,10 +136,9 @@ fn check_halves(
     out: usize,
     other: usize,
     table: &[u32],
-    source_type: usize,
-    destination_type: usize,
-) -> Checks
-    requires { ReadAs source_sheet.now destination_sheet.now table.now (Sheets.Types source_type destination_type) × (length table.now ≡ 8192) }
+    types: TypeNumbers,
+) -> Result<TypeNumbers, Answer>
+    requires { ReadAs source_sheet.now destination_sheet.now table.now (Ok types) × (length table.now ≡ 8192) }
     ensures { SheetsSay in_place source_sheet.now destination_sheet.now count out other table.now result }
 {
     let source_half = &table[..HALF];
@@ -150,9 +151,9 @@ fn check_halves(
         out,
         other,
         source_half,
-        source_type,
+        types.source,
         destination_half,
-        destination_type,
+        types.destination,
     )
 }
 
@@ -165,23 +166,19 @@ pub fn check_sheets(
     out: usize,
     other: usize,
     table: &mut [u32],
-) -> Checks
+) -> Result<TypeNumbers, Answer>
     requires { length table.old ≡ 8192 }
     ensures { SheetsSay in_place source_sheet.now destination_sheet.now count out other table.new result × (length table.new ≡ 8192) }
 {
-    match read_sheets(source_sheet, destination_sheet, table) {
-        Sheets::Source(line) => Checks::Refuse(Answer::Source(line)),
-        Sheets::Destination(line) => Checks::Refuse(Answer::Destination(line)),
-        Sheets::Types(source_type, destination_type) => check_halves(
-            in_place,
-            source_sheet,
-            destination_sheet,
-            count,
-            out,
-            other,
-            table,
-            source_type,
-            destination_type,
-        ),
-    }
+    let types = read_sheets(source_sheet, destination_sheet, table)?;
+    check_halves(
+        in_place,
+        source_sheet,
+        destination_sheet,
+        count,
+        out,
+        other,
+        table,
+        types,
+    )
 }

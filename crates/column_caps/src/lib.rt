@@ -39,12 +39,10 @@ fn cap_each_31(t: &mut [u32], count: usize, w: Words) -> u64
     let up = w.up;
     let high = w.high as u32;
     let mut raised: u32 = 0;
-    let mut i: usize = 0;
-    while i < count {
+    for i in 0..count {
         let b = bias_32(t[i], shift, half, mask);
         raised += over_31(b, high);
         t[i] = place_32(cap_31(b, high), half, into, up, ones);
-        i += 1;
     }
     raised as u64
 }

@@ -27,10 +27,8 @@ fn load_each_32(
     requires { (count ≤ length t.old) × (size ≤ 4) × (byte + size ≤ record_size) × (count * record_size ≤ length src.now) }
     ensures { (i : ℕ) → i < count → get_or t.new i 0 ≡ container_in order size byte record_size src.now i }
 {
-    let mut i: usize = 0;
-    while i < count {
+    for i in 0..count {
         t[i] = load(&src[i * record_size..], ByteAt(byte), ByteAt(size), order) as u32;
-        i += 1;
     }
 }
 
@@ -39,10 +37,8 @@ fn load_bytes_32(src: &[u8], byte: usize, count: usize, record_size: usize, t: &
     requires { (count ≤ length t.old) × (byte + 1 ≤ record_size) × (count * record_size ≤ length src.now) }
     ensures { (order : Order) (i : ℕ) → i < count → get_or t.new i 0 ≡ container_in order 1 byte record_size src.now i }
 {
-    let mut i: usize = 0;
-    while i < count {
+    for i in 0..count {
         t[i] = src[i * record_size + byte] as u32;
-        i += 1;
     }
 }
 
@@ -65,11 +61,9 @@ fn load_turned_32(src: &[u8], byte: usize, count: usize, record_size: usize, t: 
     requires { (count ≤ length t.old) × (byte + 2 ≤ record_size) × (count * record_size ≤ length src.now) }
     ensures { (i : ℕ) → i < count → get_or t.new i 0 ≡ container_in Order.BE 2 byte record_size src.now i }
 {
-    let mut i: usize = 0;
-    while i < count {
+    for i in 0..count {
         let c = load(&src[i * record_size..], ByteAt(byte), ByteAt(2), Order::LE);
         t[i] = turned(c) as u32;
-        i += 1;
     }
 }
 
@@ -84,10 +78,8 @@ fn turn_each_32(t: &mut [u32], count: usize)
     requires { count ≤ length t.old }
     ensures { (i : ℕ) → i < count → get_or t.new i 0 ≡ get_or t.old i 0 % 256 * 256 + get_or t.old i 0 / 256 }
 {
-    let mut i: usize = 0;
-    while i < count {
+    for i in 0..count {
         t[i] = turned_32(t[i]);
-        i += 1;
     }
 }
 

@@ -25,13 +25,11 @@ fn merge_each_32(
     ensures { dst.new ≡ each_record (λ i x. merge_in order size byte keep (get_or t.now i 0) x) record_size count dst.old }
 {
     let mut start: usize = 0;
-    let mut i: usize = 0;
-    while i < count {
+    for i in 0..count {
         let background = load(&dst[start..], ByteAt(byte), ByteAt(size), order);
         let c = t[i] as u64 + (background & keep as u64);
         store(&mut dst[start..], ByteAt(byte), ByteAt(size), order, c);
         start += record_size;
-        i += 1;
     }
 }
 
@@ -146,13 +144,11 @@ fn merge_each_64(
     ensures { dst.new ≡ each_record (λ i x. merge_in order size byte keep (get_or t.now i 0) x) record_size count dst.old }
 {
     let mut start: usize = 0;
-    let mut i: usize = 0;
-    while i < count {
+    for i in 0..count {
         let background = load(&dst[start..], ByteAt(byte), ByteAt(size), order);
         let c = t[i] + (background & keep);
         store(&mut dst[start..], ByteAt(byte), ByteAt(size), order, c);
         start += record_size;
-        i += 1;
     }
 }
 

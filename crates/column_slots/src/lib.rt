@@ -50,12 +50,7 @@ fn put(slots: &mut [u64], k: usize, r: &[u64])
     requires { k + length r.now ≤ length slots.old }
     ensures { slots.new ≡ paste slots.old k r.now (length r.now) }
 {
-    let mut q: usize = 0;
-    while q < r.len() {
-        let at = k + q;
-        slots[at] = r[q];
-        q += 1;
-    }
+    slots[k..k + r.len()].copy_from_slice(r);
 }
 
 // The words of a pair, from word k on.

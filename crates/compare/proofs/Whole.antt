@@ -1,4 +1,5 @@
 -- The whole call: what the checks let through, check 2, and the table afterwards. Assumes nothing.
+use Rattle.std.specs.Prelude.{Result, Ok, Err}
 use mathlib.Core.Path.{◌≡◌, refl, sym, ap, subst, ◌∙◌}
 use mathlib.Core.Bool.{Bool, true, false}
 use mathlib.Core.List.{List, ◌++◌}
@@ -18,9 +19,8 @@ use Rattle.runs.specs.Run.Checked.{refused, passed}
 use Rattle.runs.specs.Run.Form.{copying}
 use Rattle.runs.proofs.Checks.{Refusals, require_refuses, next_refuses}
 use Rattle.runs.proofs.Table.{Clears, sheets_clear, records_clear, call_clears}
+use Rattle.two_sheets.specs.declared.TypeNumbers.{TypeNumbers}
 use Rattle.two_sheets.specs.TwoSheets.{first as front, second as back}
-use Rattle.conversion.specs.declared.Checks.{Checks}
-use Rattle.conversion.specs.declared.Checks.TheVariants.{Refuse, Pass}
 use Rattle.conversion.specs.Call.{Passes}
 use Rattle.differences.specs.Call as meant
 use Rattle.differences.specs.Call.{Call, Compares}
@@ -29,17 +29,17 @@ use Rattle.compare_frames.specs.Listed.{text_with, list_checked, Leaves}
 
 -- ---- behind the checks of the logs
 
-module _ (ss ds : List ℕ) (n p q : ℕ) (w : List ℕ) {r : Checks} (says : SheetsSay ss ds n p q w r) where
-  pub refuse_left : {a : Answer} → r ≡ Refuse a → (first second list : List ℕ) (next : Datatype → Datatype → Checked)
+module _ (ss ds : List ℕ) (n p q : ℕ) (w : List ℕ) {r : Result TypeNumbers Answer} (says : SheetsSay ss ds n p q w r) where
+  pub refuse_left : {a : Answer} → r ≡ Err a → (first second list : List ℕ) (next : Datatype → Datatype → Checked)
       → Leaves n first second list (on_checked next refused (sheets_checked ss ds n p q)) a list
   refuse_left e first second list next = rw (subst (SheetsSay ss ds n p q w) e says) (record { answers = refl; lists = refl })
 
-  module _ {i k : ℕ} (e : r ≡ Pass i k) where
-    pub accepted : Passes false ss ds n q p (front w) i (back w) k
+  module _ {t : TypeNumbers} (e : r ≡ Ok t) where
+    pub accepted : Passes false ss ds n q p (front w) t.source (back w) t.destination
     accepted = (subst (SheetsSay ss ds n p q w) e says).1
 
     pub pass_left : (first second list : List ℕ) (next : Datatype → Datatype → Checked) {a : Answer} {list' : List ℕ}
-        → Leaves n first second list (next (type_at (front w) ss i) (type_at (back w) ds k)) a list'
+        → Leaves n first second list (next (type_at (front w) ss t.source) (type_at (back w) ds t.destination)) a list'
         → Leaves n first second list (on_checked next refused (sheets_checked ss ds n p q)) a list'
     pass_left first second list next {a} {list'} h =
         subst (λ (c : Checked). Leaves n first second list (on_checked next refused c) a list') (sym (subst (SheetsSay ss ds n p q w) e says).0) h

@@ -14,7 +14,6 @@ ghost use Rattle.compare_frames.specs.Listed.{Leaves, list_checked};
 use answer::Answer;
 use compare_checking::check_logs;
 use compare_frames::{TypedLogs, compare_framed, empty_framed};
-use conversion::Checks;
 use table::store::clear;
 use table::{HALF, TABLE};
 
@@ -78,12 +77,12 @@ fn compare_within(
         second.len(),
         table,
     ) {
-        Checks::Refuse(a) => a,
-        Checks::Pass(first_type, second_type) => compare_checked(
+        Err(a) => a,
+        Ok(types) => compare_checked(
             TypedLogs {
                 count: count as usize,
-                first: first_type,
-                second: second_type,
+                first: types.source,
+                second: types.destination,
             },
             list,
             first,

@@ -7,10 +7,9 @@ ghost use Rattle.compare_checking.specs.Checks.{TypesSay, SheetsSay};
 
 use answer::Answer;
 use checking::check_records;
-use conversion::Checks;
 use path_search::has_path;
 use table::HALF;
-use two_sheets::{Sheets, read_sheets};
+use two_sheets::{TypeNumbers, read_sheets};
 
 // Checks 5 to 7, of types that were read. The second log's records stand where a conversion's destination would.
 fn check_types(
@@ -23,7 +22,7 @@ fn check_types(
     first_type: usize,
     second_half: &[u32],
     second_type: usize,
-) -> Checks
+) -> Result<TypeNumbers, Answer>
     requires { Both first_sheet.now first_half.now first_type second_sheet.now second_half.now second_type }
     ensures { TypesSay first_sheet.now second_sheet.now count first second first_half.now first_type second_half.now second_type result }
 {
@@ -35,7 +34,7 @@ fn check_types(
         second_sheet,
         second_type,
     ) {
-        return Checks::Refuse(Answer::Path);
+        return Err(Answer::Path);
     }
     check_records(
         false,
@@ -57,10 +56,9 @@ fn check_halves(
     first: usize,
     second: usize,
     table: &[u32],
-    first_type: usize,
-    second_type: usize,
-) -> Checks
-    requires { ReadAs first_sheet.now second_sheet.now table.now (Sheets.Types first_type second_type) × (length table.now ≡ 8192) }
+    types: TypeNumbers,
+) -> Result<TypeNumbers, Answer>
+    requires { ReadAs first_sheet.now second_sheet.now table.now (Ok types) × (length table.now ≡ 8192) }
     ensures { SheetsSay first_sheet.now second_sheet.now count first second table.now result }
 {
     let first_half = &table[..HALF];
@@ -72,9 +70,9 @@ fn check_halves(
         first,
         second,
         first_half,
-        first_type,
+        types.source,
         second_half,
-        second_type,
+        types.destination,
     )
 }
 
@@ -86,22 +84,18 @@ pub fn check_logs(
     first: usize,
     second: usize,
     table: &mut [u32],
-) -> Checks
+) -> Result<TypeNumbers, Answer>
     requires { length table.old ≡ 8192 }
     ensures { SheetsSay first_sheet.now second_sheet.now count first second table.new result × (length table.new ≡ 8192) }
 {
-    match read_sheets(first_sheet, second_sheet, table) {
-        Sheets::Source(line) => Checks::Refuse(Answer::Source(line)),
-        Sheets::Destination(line) => Checks::Refuse(Answer::Destination(line)),
-        Sheets::Types(first_type, second_type) => check_halves(
-            first_sheet,
-            second_sheet,
-            count,
-            first,
-            second,
-            table,
-            first_type,
-            second_type,
-        ),
-    }
+    let types = read_sheets(first_sheet, second_sheet, table)?;
+    check_halves(
+        first_sheet,
+        second_sheet,
+        count,
+        first,
+        second,
+        table,
+        types,
+    )
 }

@@ -10,7 +10,6 @@ use lib.Seq.{take-take, length-take-le}
 use lib.IntN.{ℤ}
 use Rattle.layout.specs.declared.Layout.{Layout}
 use Rattle.bits.specs.Container.{container, field}
-use Rattle.number.specs.declared.Number.{Number}
 use Rattle.number.specs.Number.{valued}
 use Rattle.text.specs.Written.{Wrote}
 use Rattle.text.proofs.Written.{wrote_none, wrote_then}
@@ -24,10 +23,10 @@ use Rattle.plans.specs.PlanWords.{entry_at, entries_from, entries_at}
 use Rattle.plans.specs.PlanEntries.{words_at}
 use Rattle.plans.proofs.Entries.{entries_last}
 use Rattle.loops.proofs.Lists.{part_agree}
+use Rattle.std.specs.Prelude.{Option, Some, None}
 use Rattle.differences.specs.Same.{same_in}
 use Rattle.differences.specs.Differences.{Difference, of_leaf, at_byte, in_record, line, lines}
-use Rattle.comparing.specs.declared.Compared.{Compared}
-use Rattle.comparing.specs.declared.Compared.TheVariants.{Same, Differ}
+use Rattle.comparing.specs.declared.Differing.{Differing}
 use Rattle.comparing.specs.Comparing.{EntrySays, EntryFormed, EntriesFormed, difference_of, entry_text, of_entry, by_entries, record_text}
 
 -- ---- the leaves by bytes are the leaves by the plan's entries
@@ -88,8 +87,8 @@ by_append (e ∷ es) fs i p q =
 
 -- ---- one entry, of which r says what its numbers are
 
-module _ (i : ℕ) (p q : List ℕ) (e : PlanEntry) (ss ws ds wd : List ℕ) (r : Compared) (says : EntrySays e ss ws ds wd p q r) where
-  module _ (is : r ≡ Same) where
+module _ (i : ℕ) (p q : List ℕ) (e : PlanEntry) (ss ws ds wd : List ℕ) (r : Option Differing) (says : EntrySays e ss ws ds wd p q r) where
+  module _ (is : r ≡ None) where
     pub no_text : entry_text i p q e ss ws ds wd ≡ []
     unfolding entry_text lines
     no_text = rw (rw is at says) refl
@@ -100,20 +99,20 @@ module _ (i : ℕ) (p q : List ℕ) (e : PlanEntry) (ss ws ds wd : List ℕ) (r 
     pub no_line : (list : List ℕ) (at : ℕ) → Wrote list at (entry_text i p q e ss ws ds wd) list at
     no_line list at = rw no_text (wrote_none list at)
 
-  module _ (m n : Number) (is : r ≡ Differ m n) where
-    pub line_text : entry_text i p q e ss ws ds wd ≡ line (difference_of i e.to m n)
+  module _ (d : Differing) (is : r ≡ Some d) where
+    pub line_text : entry_text i p q e ss ws ds wd ≡ line (difference_of i e.to d.first d.second)
     unfolding entry_text lines
     line_text =
         let differ = rw is at says in
-        rw (differ.0, ← differ.1, ← differ.2) (append-nil (line (difference_of i e.to m n)))
+        rw (differ.0, ← differ.1, ← differ.2) (append-nil (line (difference_of i e.to d.first d.second)))
 
-    pub line_length : (k : ℕ) → (k ≡ length (line (difference_of i e.to m n))) × (k ≤ 84) → (k ≡ length (entry_text i p q e ss ws ds wd)) × (k ≤ 84)
+    pub line_length : (k : ℕ) → (k ≡ length (line (difference_of i e.to d.first d.second))) × (k ≤ 84) → (k ≡ length (entry_text i p q e ss ws ds wd)) × (k ≤ 84)
     line_length k h = (h.0 ∙ ap length (sym line_text), h.1)
 
-    pub line_room : (at k : ℕ) → at + length (entry_text i p q e ss ws ds wd) ≤ k → at + length (line (difference_of i e.to m n)) ≤ k
+    pub line_room : (at k : ℕ) → at + length (entry_text i p q e ss ws ds wd) ≤ k → at + length (line (difference_of i e.to d.first d.second)) ≤ k
     line_room at k h = rw line_text at h
 
-    pub the_line : (list : List ℕ) (at : ℕ) (after : List ℕ) (k : ℕ) → Wrote list at (line (difference_of i e.to m n)) after k → Wrote list at (entry_text i p q e ss ws ds wd) after k
+    pub the_line : (list : List ℕ) (at : ℕ) (after : List ℕ) (k : ℕ) → Wrote list at (line (difference_of i e.to d.first d.second)) after k → Wrote list at (entry_text i p q e ss ws ds wd) after k
     the_line list at after k h = rw line_text h
 
 -- ---- the entries of a record, one more at a time

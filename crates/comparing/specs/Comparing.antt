@@ -1,5 +1,5 @@
 -- What the functions that compare two logs promise, by the entries of a plan. No meaning of document 02 stands here: that is in crate differences.
-use Rattle.std.specs.Prelude.{◌≡◌, true, false, List, [], ◌∷◌, ◌++◌, ℕ, ◌+◌, ◌*◌, ◌-◌, ◌≤◌, ◌<◌, length, ℤ}
+use Rattle.std.specs.Prelude.{◌≡◌, true, false, Option, Some, None, List, [], ◌∷◌, ◌++◌, ℕ, ◌+◌, ◌*◌, ◌-◌, ◌≤◌, ◌<◌, length, ℤ}
 use Rattle.number.specs.declared.Number.{Number}
 use Rattle.number.specs.Parts.{meaning}
 use Rattle.datatype.specs.Datatype.{Leaf, leaf_size}
@@ -12,15 +12,14 @@ use Rattle.plans.specs.PlanEntries.{words_at}
 use Rattle.differences.specs.Same.{same_in}
 use Rattle.differences.specs.Differences.{Difference, of_leaf, in_records, differences, lines, shown}
 use Rattle.comparing.specs.declared.Logs.{Logs}
-use Rattle.comparing.specs.declared.Compared.{Compared}
-use Rattle.comparing.specs.declared.Compared.TheVariants.{Same, Differ}
+use Rattle.comparing.specs.declared.Differing.{Differing}
 
 -- ---- one leaf
 
--- r says of the number z of leaf x and the number w of leaf y whether they are the same, and which they are where they differ
-abbrev pub Says : Leaf → Leaf → ℤ → ℤ → Compared → Type 0
-Says x y z w Same = same_in x y z w ≡ true
-Says x y z w (Differ m n) = (same_in x y z w ≡ false) × (meaning m ≡ z) × (meaning n ≡ w)
+-- r says of the number z of leaf x and the number w of leaf y whether they differ, and which they are where they do
+abbrev pub Says : Leaf → Leaf → ℤ → ℤ → Option Differing → Type 0
+Says x y z w None = same_in x y z w ≡ true
+Says x y z w (Some d) = (same_in x y z w ≡ false) × (meaning d.first ≡ z) × (meaning d.second ≡ w)
 
 -- the entry e between well-formed leaves of the halves ws and wd beside the texts ss and ds, inside records of s and of d bytes
 pub record EntryFormed (s d : ℕ) (e : PlanEntry) (ss ws ds wd : List ℕ) : Type 0 where
@@ -30,7 +29,7 @@ pub record EntryFormed (s d : ℕ) (e : PlanEntry) (ss ws ds wd : List ℕ) : Ty
   pub write : e.to + leaf_size (leaf_of_type wd ds e.destination) ≤ d
 
 -- r says it of the leaves of entry e, in the records p and q
-abbrev pub EntrySays : PlanEntry → List ℕ → List ℕ → List ℕ → List ℕ → List ℕ → List ℕ → Compared → Type 0
+abbrev pub EntrySays : PlanEntry → List ℕ → List ℕ → List ℕ → List ℕ → List ℕ → List ℕ → Option Differing → Type 0
 EntrySays e ss ws ds wd p q r =
     let x = leaf_of_type ws ss e.source in
     let y = leaf_of_type wd ds e.destination in

@@ -12,9 +12,9 @@ pub struct Logs {
     pub entries: usize,
 }
 
-// The numbers of a matched leaf: the same in both logs, or the two that differ.
+// The numbers of a matched leaf that differ: that of the first log, and that of the second.
 #[derive(Clone, Copy)]
-pub enum Compared {
-    Same,
-    Differ(Number, Number),
+pub struct Differing {
+    pub first: Number,
+    pub second: Number,
 }

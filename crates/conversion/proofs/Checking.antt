@@ -1,4 +1,5 @@
 -- What follows where the checks of a call answer. Assumes nothing.
+use Rattle.std.specs.Prelude.{Result, Ok, Err}
 use mathlib.Core.Path.{◌≡◌, refl, sym, ap, subst, ◌∙◌}
 use mathlib.Core.Bool.{Bool, true, false, not, ◌&&◌}
 use mathlib.Core.List.{List}
@@ -21,12 +22,11 @@ use Rattle.table.proofs.Made.{node_size}
 use Rattle.sheet.specs.Sheet.{sheet_of}
 use Rattle.runs.specs.Run.{has_room, target}
 use Rattle.runs.specs.Run.Checked.{refused, passed}
-use Rattle.two_sheets.specs.declared.Sheets.{Sheets}
-use Rattle.two_sheets.specs.declared.Sheets.TheVariants as sheets
-use Rattle.two_sheets.specs.TwoSheets.{first, second, IsSheet, ReadAs, SheetsRead, Both}
+use Rattle.two_sheets.specs.declared.TypeNumbers.{TypeNumbers}
+use Rattle.two_sheets.specs.declared.SheetFault.{SheetFault}
+use Rattle.two_sheets.specs.declared.SheetFault.TheVariants.{Source, Destination}
+use Rattle.two_sheets.specs.TwoSheets.{first, second, IsSheet, refusal, ReadAs, SheetsRead, Both}
 use Rattle.two_sheets.proofs.Halves.{rest_is, types_both}
-use Rattle.conversion.specs.declared.Checks.{Checks}
-use Rattle.conversion.specs.declared.Checks.TheVariants.{Refuse, Pass}
 use Rattle.conversion.specs.Call.{form_of, source_of, background_of, HasRecords, ConvertsIn, sheets_checked, records_checked, types_checked, Passes, RecordsSay, TypesSay, SheetsSay}
 use Rattle.conversion.proofs.Parts.{no_path, lost_symbols, behind_types, many, no_room, all_pass, denied, granted, product_fits, copying_short, copying_small, copying_room, in_place_short, in_place_grown, in_place_small, in_place_room, source_faulty, destination_faulty, both_read}
 
@@ -98,7 +98,7 @@ module _ (b : Bool) (ss ds : List ℕ) (n out other : ℕ) (ws : List ℕ) (i : 
   abbrev D : Datatype
   D = type_at wd ds k
 
-  pub refuse_count : 65536 < n → RecordsSay b ss ds n out other ws i wd k (Refuse answer.Count)
+  pub refuse_count : 65536 < n → RecordsSay b ss ds n out other ws i wd k (Err answer.Count)
   refuse_count g = many (form_of b) n (source_of b out other) (background_of b out other) S D g
 
   module _ (few : n ≤ 65536) {s d : ℕ} (rs : Reads (size_word ws i) s) (rd : Reads (size_word wd k) d) where
@@ -112,10 +112,10 @@ module _ (b : Bool) (ss ds : List ℕ) (n out other : ℕ) (ws : List ℕ) (i : 
     sizes_fit = (few, rw source_size_lem (size_most S types.source), rw destination_size_lem (size_most D types.destination))
 
     module _ {r : Bool} (room : r ≡ has_room (form_of b) n s d (source_of b out other) (background_of b out other)) where
-      pub refuse_room : not r ≡ true → RecordsSay b ss ds n out other ws i wd k (Refuse answer.Room)
+      pub refuse_room : not r ≡ true → RecordsSay b ss ds n out other ws i wd k (Err answer.Room)
       refuse_room q = no_room (form_of b) n (source_of b out other) (background_of b out other) S D few s d source_size_lem destination_size_lem (denied _ _ room q)
 
-      pub pass_records : not r ≡ false → RecordsSay b ss ds n out other ws i wd k (Pass i k)
+      pub pass_records : not r ≡ false → RecordsSay b ss ds n out other ws i wd k (Ok (record { source = i; destination = k }))
       pass_records q = (
         refl,
         refl,
@@ -127,11 +127,11 @@ module _ (b : Bool) (ss ds : List ℕ) (n out other : ℕ) (ws : List ℕ) (i : 
       )
 
   module _ {p : Bool} (path : p ≡ has_path (type_at ws ss i) (type_at wd ds k)) where
-    pub refuse_path : not p ≡ true → TypesSay b ss ds n out other ws i wd k (Refuse answer.Path)
+    pub refuse_path : not p ≡ true → TypesSay b ss ds n out other ws i wd k (Err answer.Path)
     refuse_path h = no_path (form_of b) n (source_of b out other) (background_of b out other) S D (denied _ _ path h)
 
     module _ (h : not p ≡ false) {q : Bool} (kept : q ≡ keeps_symbols (type_at ws ss i) (type_at wd ds k)) where
-      pub refuse_symbols : not q ≡ true → TypesSay b ss ds n out other ws i wd k (Refuse answer.Symbols)
+      pub refuse_symbols : not q ≡ true → TypesSay b ss ds n out other ws i wd k (Err answer.Symbols)
       refuse_symbols g = lost_symbols (form_of b) n (source_of b out other) (background_of b out other) S D (granted _ _ path h) (denied _ _ kept g)
 
       -- behind the path and the symbols, the checks of the records are left
@@ -139,9 +139,9 @@ module _ (b : Bool) (ss ds : List ℕ) (n out other : ℕ) (ws : List ℕ) (i : 
         records_left : types_checked b n out other (type_at ws ss i) (type_at wd ds k) ≡ records_checked b n out other (type_at ws ss i) (type_at wd ds k)
         records_left = behind_types (form_of b) n (source_of b out other) (background_of b out other) S D (granted _ _ path h) (granted _ _ kept g)
 
-        pub types_say : (r : Checks) → RecordsSay b ss ds n out other ws i wd k r → TypesSay b ss ds n out other ws i wd k r
-        types_say (Refuse a) f = records_left ∙ f
-        types_say (Pass i' k') f = (f.0, f.1, records_left ∙ f.2, f.3)
+        pub types_say : (r : Result TypeNumbers Answer) → RecordsSay b ss ds n out other ws i wd k r → TypesSay b ss ds n out other ws i wd k r
+        types_say (Err a) f = records_left ∙ f
+        types_say (Ok t) f = (f.0, f.1, records_left ∙ f.2, f.3)
 
 -- ---- sheets
 
@@ -156,21 +156,20 @@ module _ (b : Bool) (ss ds : List ℕ) (n out other : ℕ) (w : List ℕ) (i k :
   checked_is : sheets_checked b ss ds n out other ≡ types_checked b n out other (type_at (first w) ss i) (type_at (second w) ds k)
   checked_is = both_read (form_of b) ss ds n (source_of b out other) (background_of b out other) read.0.type read.1.type
 
-  pub halves_say : (r : Checks) → TypesSay b ss ds n out other (first w) i rest k r → SheetsSay b ss ds n out other w r
-  halves_say (Refuse a) h = checked_is ∙ rw (rest_is w) at h
-  halves_say (Pass i' k') h =
+  pub halves_say : (r : Result TypeNumbers Answer) → TypesSay b ss ds n out other (first w) i rest k r → SheetsSay b ss ds n out other w r
+  halves_say (Err a) h = checked_is ∙ rw (rest_is w) at h
+  halves_say (Ok t) h =
       let g = rw (rest_is w) at h in
       rw (g.0, g.1) (checked_is ∙ g.2, g.3)
 
-module _ (b : Bool) (ss ds : List ℕ) (n out other : ℕ) (w : List ℕ) {r : Sheets} (reads : SheetsRead ss ds w r) where
-  pub source_says : {k : ℕ} → r ≡ sheets.Source k → SheetsSay b ss ds n out other w (Refuse (answer.Source k)) × (length w ≡ 8192)
-  source_says {k} e =
-      (source_faulty (form_of b) ss ds n (source_of b out other) (background_of b out other) k (subst (ReadAs ss ds w) e reads.is), reads.words)
+-- a faulty sheet
+module _ (b : Bool) (ss ds : List ℕ) (n out other : ℕ) (w : List ℕ) where
+  fault_refuses : (f : SheetFault) → ReadAs ss ds w (Err f) → SheetsSay b ss ds n out other w (Err (refusal f))
+  fault_refuses (Source k) is = source_faulty (form_of b) ss ds n (source_of b out other) (background_of b out other) k is
+  fault_refuses (Destination k) is = destination_faulty (form_of b) ss ds n (source_of b out other) (background_of b out other) k is.0.1.type is.1
 
-  pub destination_says : {k : ℕ} → r ≡ sheets.Destination k → SheetsSay b ss ds n out other w (Refuse (answer.Destination k)) × (length w ≡ 8192)
-  destination_says {k} e =
-      let is = subst (ReadAs ss ds w) e reads.is in
-      (destination_faulty (form_of b) ss ds n (source_of b out other) (background_of b out other) k is.0.1.type is.1, reads.words)
+  pub fault_says : {r : Result TypeNumbers SheetFault} {f : SheetFault} → SheetsRead ss ds w r → r ≡ Err f → SheetsSay b ss ds n out other w (Err (refusal f)) × (length w ≡ 8192)
+  fault_says {f = f} reads e = (fault_refuses f (subst (ReadAs ss ds w) e reads.is), reads.words)
 
-pub types_of : (ss ds w : List ℕ) {r : Sheets} {i k : ℕ} → SheetsRead ss ds w r → r ≡ sheets.Types i k → (IsSheet ss (first w) i × IsSheet ds (second w) k) × (length w ≡ 8192)
+pub types_of : (ss ds w : List ℕ) {r : Result TypeNumbers SheetFault} {t : TypeNumbers} → SheetsRead ss ds w r → r ≡ Ok t → ReadAs ss ds w (Ok t) × (length w ≡ 8192)
 types_of ss ds w reads e = (subst (ReadAs ss ds w) e reads.is, reads.words)

@@ -1,17 +1,17 @@
 -- What follows at each place where a call answers. Assumes nothing.
-use mathlib.Core.Path.{◌≡◌, refl, sym, ap, subst, ◌∙◌}
-use mathlib.Core.Bool.{Bool, true, false, not, ◌&&◌, false≢true}
+use mathlib.Core.Path.{◌≡◌, refl, sym, ap, ◌∙◌}
+use mathlib.Core.Bool.{Bool, true, false, not, false≢true}
 use mathlib.Core.List.{List, []}
 use mathlib.Core.Option.{Option, none, some}
-use Prim.Native.Nat.{ℕ, zero, suc, ◌+◌, ◌-◌, ◌*◌, ◌^◌, ◌≤◌, ◌<◌, max}
+use Prim.Native.Nat.{ℕ, zero, suc, ◌+◌, ◌*◌, ◌≤◌, ◌<◌, max}
 use native.Mathlib.Nat.{le_trans, mul-le-mul_left, mul-le-mul_right}
 use native.Mathlib.Numerals.{add-one}
 use native.Mathlib.Omega.{arith}
 use borrow.Author.Tests.{le-leb, lt-leb, leb-true, leb-false}
-use lib.Dec.{leb}
-use lib.ListN.{length}
+use lib.Dec.{leb, eqb}
+use Rattle.std.specs.Prelude as prelude
+use Rattle.std.specs.Prelude.{Some, None}
 use Rattle.answer.specs.declared.Answer.{Answer}
-use Rattle.answer.specs.declared.Given.{Given}
 use Rattle.answer.specs.declared.Answer.TheVariants as answer
 use Rattle.datatype.specs.Datatype.{Datatype, size}
 use Rattle.datatype.specs.Symbols.{on_some}
@@ -25,17 +25,16 @@ use Rattle.sheet.specs.Sheet.{sheet_of}
 use Rattle.sheet.specs.Sheet.Sheet.{of_type, faulty_at}
 use Rattle.records.specs.Record.{reading, kind_at, given_at, first_raising, stop_kind_at}
 use Rattle.records.specs.Records.{record_at, readings, exceptions}
-use Rattle.records.specs.Plan.{plan_of, Raised, first_by}
+use Rattle.records.specs.Plan.{plan_of, first_by}
 use Rattle.records.specs.Plan.Raised.{nowhere, at}
 use Rattle.records.proofs.StopPlan.{plan_stops}
-use Rattle.loops.specs.declared.Stop.{Stop}
-use Rattle.loops.specs.declared.Stop.TheVariants.{At, Nowhere}
+use Rattle.loops.specs.declared.Exception.{Exception}
 use Rattle.loops.specs.Stops as stops
 use Rattle.loops.specs.Stops.{stop_by}
 use Rattle.runs.specs.Run.{Form, Checked, handled, target, result, if_done, has_room, stop_from, record_checks, type_checks, sheet_checks}
 use Rattle.runs.specs.Run.Form.{copying, in_place}
 use Rattle.runs.specs.Run.Checked.{refused, passed}
-use Rattle.conversion.specs.Call.{Leaves, Decided}
+use Rattle.conversion.specs.Call.{Leaves, stopped, unless_stopped, StopSays, Decided}
 use Rattle.runs.proofs.Exceptions.{clamped_handled}
 
 -- ---- a refusal
@@ -57,63 +56,42 @@ module _ (form : Form) (n : ℕ) (source background : List ℕ) (S D : Datatype)
       let e : handled h S D n (readings S D source) ≡ answer.Done r = is ∙ ap answer.Done (sym done.1) in
       record { answers = sym e; leaves = done.0 ∙ sym (ap (λ (a : Answer). if_done a (result form S D n source background) (target form source background)) e) }
 
-  pub stops_with : (h : ℕ) {i b kind : ℕ} {given : Given} → handled h S D n (readings S D source) ≡ answer.Stop i b kind given
-      → Leaves form h n source background (passed S D) (answer.Stop i b kind given) (target form source background)
+  pub stops_with : (h : ℕ) {e : Exception} → StopSays h S D n source (Some e) → Leaves form h n source background (passed S D) (stopped e) (target form source background)
   stops_with h is =
       record { answers = sym is; leaves = sym (ap (λ (a : Answer). if_done a (result form S D n source background) (target form source background)) is) }
 
-  -- what the plan to the leaves that obey stop finds first is what STOP names; where it finds nothing, the call is done with this count
-  said : ℕ → Stop → Answer
-  said count (At i b kind given) = answer.Stop i b kind given
-  said count Nowhere = answer.Done count
-
+-- what the plan to the leaves that obey stop finds first is what STOP names; where it finds nothing, the call is done with this count
+module _ (n : ℕ) (source : List ℕ) (S D : Datatype) where
   same_stop : (h : ℕ) → h ≤ 1 → (count i k : ℕ)
-      → stop_from h S D (readings S D source) (answer.Done count) i k ≡ said count (stop_by (plan_of S (stopping h D)) (size S) source i k)
-  unfolding stop_from stop_by said
+      → stop_from h S D (readings S D source) (answer.Done count) i k ≡ unless_stopped count (stop_by (plan_of S (stopping h D)) (size S) source i k)
+  unfolding stop_from stop_by
   same_stop h few count i zero = refl
   same_stop h few count i (suc k) =
       rw (plan_stops h few S D (record_at (size S) i source), ← (add-one i))
       (go (first_raising (stop_kind_at h S D (reading S D (record_at (size S) i source))) 0 (size D)) (same_stop h few count (i + 1) k))
     where
-      go : (o : Option ℕ) → stop_from h S D (readings S D source) (answer.Done count) (i + 1) k ≡ said count (stop_by (plan_of S (stopping h D)) (size S) source (i + 1) k)
+      go : (o : Option ℕ) → stop_from h S D (readings S D source) (answer.Done count) (i + 1) k ≡ unless_stopped count (stop_by (plan_of S (stopping h D)) (size S) source (i + 1) k)
           → on_some (λ b. answer.Stop i b (kind_at S D (reading S D (record_at (size S) i source)) b) (given_at S D (reading S D (record_at (size S) i source)) b)) (stop_from h S D (readings S D source) (answer.Done count) (i + 1) k) o
-          ≡ said count (stops.or_stop i (on_some (λ b. at b (kind_at S D (reading S D (record_at (size S) i source)) b) (given_at S D (reading S D (record_at (size S) i source)) b)) nowhere o) (stop_by (plan_of S (stopping h D)) (size S) source (i + 1) k))
+          ≡ unless_stopped count (stops.or_stop i (on_some (λ b. at b (kind_at S D (reading S D (record_at (size S) i source)) b) (given_at S D (reading S D (record_at (size S) i source)) b)) nowhere o) (stop_by (plan_of S (stopping h D)) (size S) source (i + 1) k))
       go none e = e
       go (some b) e = refl
 
-  module _ (h s : ℕ) (few : h ≤ 1) (sized : s ≡ size S) (stop : Stop) (found : stop ≡ stop_by (plan_of S (stopping h D)) s source 0 n) where
-    handled_as : handled h S D n (readings S D source) ≡ said (exceptions S D n (readings S D source)) stop
-    handled_as =
-        same_stop h few (exceptions S D n (readings S D source)) 0 n
-        ∙ rw (← sized) (ap (said (exceptions S D n (readings S D source))) (sym found))
-
-    pub stop_said : {i b kind : ℕ} {given : Given} → stop ≡ At i b kind given → handled h S D n (readings S D source) ≡ answer.Stop i b kind given
-    unfolding said
-    stop_said e = handled_as ∙ ap (said (exceptions S D n (readings S D source))) e
-
-    pub none_said : stop ≡ Nowhere → handled h S D n (readings S D source) ≡ answer.Done (exceptions S D n (readings S D source))
-    unfolding said
-    none_said e = handled_as ∙ ap (said (exceptions S D n (readings S D source))) e
+  pub stop_says : (h s : ℕ) → h ≤ 1 → s ≡ size S → {r : prelude.Option Exception} → r ≡ stop_by (plan_of S (stopping h D)) s source 0 n → StopSays h S D n source r
+  stop_says h s few sized found =
+      same_stop h few (exceptions S D n (readings S D source)) 0 n
+      ∙ rw (← sized) (ap (unless_stopped (exceptions S D n (readings S D source))) (sym found))
 
 -- a plan without entries finds nothing
-pub none_planned : (s : ℕ) (source : List ℕ) (i k : ℕ) → stop_by [] s source i k ≡ Nowhere
+pub none_planned : (s : ℕ) (source : List ℕ) (i k : ℕ) → stop_by [] s source i k ≡ None
 unfolding stop_by first_by
 none_planned s source i zero = refl
 none_planned s source i (suc k) = none_planned s source (i + 1) k
 
 -- each leaf obeys the call: nothing stops it, or anything that raises
-pub obeys_decided : (h : ℕ) (S D : Datatype) (n : ℕ) (source : List ℕ) → h ≤ 1 → ((b : ℕ) → handling_at h D b ≡ h) → Decided h S D n source h
+pub obeys_decided : (h : ℕ) (S D : Datatype) (n : ℕ) (source : List ℕ) → h ≤ 1 → ((b : ℕ) → handling_at h D b ≡ h) → Decided h S D n source (eqb h 1)
 obeys_decided zero S D n source few all = clamped_handled S D 0 n (readings S D source) (λ b a x y e. all b)
 obeys_decided (suc zero) S D n source few all = all
 obeys_decided (suc (suc h)) S D n source few all = absurd (omega arith)
-
-pub decided_none : (h : ℕ) (S D : Datatype) (n : ℕ) (source : List ℕ) {k : ℕ} → k ≡ 0 → Decided h S D n source k
-    → handled h S D n (readings S D source) ≡ answer.Done (exceptions S D n (readings S D source))
-decided_none h S D n source e d = subst (Decided h S D n source) e d
-
-pub decided_all : (h : ℕ) (S D : Datatype) (n : ℕ) (source : List ℕ) (k : ℕ) → ¬ (k ≡ 0) → Decided h S D n source k → (b : ℕ) → handling_at h D b ≡ 1
-decided_all h S D n source zero nz d = absurd (nz refl)
-decided_all h S D n source (suc k) nz d = d
 
 -- ---- checks 5 to 7
 

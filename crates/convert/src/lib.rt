@@ -10,7 +10,6 @@ ghost use Rattle.conversion.specs.Call.{LeavesIn, Passes, sheets_checked};
 
 use answer::Answer;
 use checking::check_sheets;
-use conversion::Checks;
 use datatype::STOP;
 use frames::{copy_framed, replace_framed};
 use table::store::clear;
@@ -85,8 +84,8 @@ fn convert_within(
         other.len(),
         table,
     ) {
-        Checks::Refuse(a) => a,
-        Checks::Pass(source_type, destination_type) => convert_checked(
+        Err(a) => a,
+        Ok(types) => convert_checked(
             in_place,
             source_sheet,
             destination_sheet,
@@ -95,8 +94,8 @@ fn convert_within(
             out,
             other,
             table,
-            source_type,
-            destination_type,
+            types.source,
+            types.destination,
         ),
     }
 }

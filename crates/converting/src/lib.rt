@@ -6,12 +6,11 @@ ghost use Rattle.records.specs.Plan.{plan_of};
 ghost use Rattle.plans.specs.PlanWords.{Job};
 ghost use Rattle.loops.specs.Stops.{stop_by};
 ghost use Rattle.runs.specs.Run.Checked.{passed};
-ghost use Rattle.conversion.specs.Call.{source_of, HasRecords, ConvertsIn, Decided, LeavesIn};
+ghost use Rattle.conversion.specs.Call.{source_of, HasRecords, ConvertsIn, answer_of, StopSays, Decided, LeavesIn};
 
-use answer::Answer;
 use copy_loop::copy_records;
 use in_place_loop::replace_records;
-use loops::Stop;
+use loops::Exception;
 use scan_loop::first_exception;
 
 // Converts the records in the buffer `out`, in place or from the buffer `other`, and counts the exceptions.
@@ -71,7 +70,7 @@ pub fn first_stop(
     source_half: &[u32],
     destination_half: &[u32],
     words: &[u32],
-) -> Stop
+) -> Option<Exception>
     requires { (d : ℕ) × Job source_size d plan.now entries source_half.now destination_half.now words.now × HasRecords in_place count source_size d (length out.now) (length other.now) }
     ensures { (d : ℕ) (j : Job source_size d plan.now entries source_half.now destination_half.now words.now) → result ≡ stop_by (plan_of j.source j.destination) source_size (source_of in_place out.now other.now) 0 count }
 {
@@ -99,10 +98,44 @@ pub fn first_stop(
     )
 }
 
-// By the whole plan: scan 0 converts; scan 1 looks for the first exception before it writes anything.
+// The exception that stops the call, where it is to be looked for by the whole plan.
+fn stopped_by(
+    in_place: bool,
+    scan: bool,
+    out: &[u8],
+    other: &[u8],
+    count: usize,
+    source_size: usize,
+    plan: &[u32],
+    entries: usize,
+    source_half: &[u32],
+    destination_half: &[u32],
+    words: &[u32],
+) -> Option<Exception>
+    requires { (d : ℕ) × Job source_size d plan.now entries source_half.now destination_half.now words.now × HasRecords in_place count source_size d (length out.now) (length other.now) }
+    ensures { (d : ℕ) (j : Job source_size d plan.now entries source_half.now destination_half.now words.now) (h : ℕ) → h ≤ 1 → Decided h j.source j.destination count (source_of in_place out.now other.now) scan → StopSays h j.source j.destination count (source_of in_place out.now other.now) result }
+{
+    if scan {
+        return first_stop(
+            in_place,
+            out,
+            other,
+            count,
+            source_size,
+            plan,
+            entries,
+            source_half,
+            destination_half,
+            words,
+        );
+    }
+    None
+}
+
+// By the whole plan: converts, and counts the exceptions; where `scan` says so, it first looks for one, and where there is one, nothing is written.
 pub fn convert_planned(
     in_place: bool,
-    scan: u32,
+    scan: bool,
     out: &mut [u8],
     other: &[u8],
     count: usize,
@@ -113,27 +146,13 @@ pub fn convert_planned(
     source_half: &[u32],
     destination_half: &[u32],
     words: &[u32],
-) -> Answer
+) -> Result<u64, Exception>
     requires { Job source_size destination_size plan.now entries source_half.now destination_half.now words.now × HasRecords in_place count source_size destination_size (length out.old) (length other.now) }
-    ensures { (j : Job source_size destination_size plan.now entries source_half.now destination_half.now words.now) (h : ℕ) → h ≤ 1 → Decided h j.source j.destination count (source_of in_place out.old other.now) scan → LeavesIn in_place h count out.old other.now (passed j.source j.destination) result out.new }
+    ensures { (j : Job source_size destination_size plan.now entries source_half.now destination_half.now words.now) (h : ℕ) → h ≤ 1 → Decided h j.source j.destination count (source_of in_place out.old other.now) scan → LeavesIn in_place h count out.old other.now (passed j.source j.destination) (answer_of result) out.new }
 {
-    if scan == 0 {
-        return Answer::Done(convert_records(
-            in_place,
-            out,
-            other,
-            count,
-            source_size,
-            destination_size,
-            plan,
-            entries,
-            source_half,
-            destination_half,
-            words,
-        ));
-    }
-    match first_stop(
+    if let Some(first) = stopped_by(
         in_place,
+        scan,
         out,
         other,
         count,
@@ -144,19 +163,19 @@ pub fn convert_planned(
         destination_half,
         words,
     ) {
-        Stop::At(i, b, kind, given) => Answer::Stop(i, b, kind, given),
-        Stop::Nowhere => Answer::Done(convert_records(
-            in_place,
-            out,
-            other,
-            count,
-            source_size,
-            destination_size,
-            plan,
-            entries,
-            source_half,
-            destination_half,
-            words,
-        )),
+        return Err(first);
     }
+    Ok(convert_records(
+        in_place,
+        out,
+        other,
+        count,
+        source_size,
+        destination_size,
+        plan,
+        entries,
+        source_half,
+        destination_half,
+        words,
+    ))
 }

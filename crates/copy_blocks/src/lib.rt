@@ -20,10 +20,6 @@ const NONE: Progress = Progress {
     raised: 0,
 };
 
-fn longer(a: usize, b: usize) -> usize {
-    if a < b { b } else { a }
-}
-
 // The fewest records that make a block: one that falls into many equal parts has numbers enough in each column.
 fn fewest(parts: usize) -> usize
     ensures { (1 ≤ result) × (result ≤ 8) }
@@ -60,9 +56,10 @@ fn copy_plain(
     let mut slots = [0u64; SLOTS_WORDS];
     let mut narrow = [0u32; BLOCK];
     let mut wide = [0u64; BLOCK];
-    let at_once = copied_at_once(longer(source_size, destination_size));
+    let at_once = copied_at_once(source_size.max(destination_size));
     let mut raised: u64 = 0;
     let mut i: usize = 0;
+    // Where the blocks end is answered, since a few records may be left over: no range tells that.
     while i + few <= count {
         let k = least(at_once, count - i);
         raised += grouped_block(

@@ -37,8 +37,7 @@ pub fn copy_records(
         words,
     );
     let mut total = done.raised;
-    let mut i = done.records;
-    while i < count {
+    for i in done.records..count {
         total += write_record(
             &src[i * source_size..],
             &mut dst[i * destination_size..],
@@ -48,7 +47,6 @@ pub fn copy_records(
             destination_half,
             words,
         );
-        i += 1;
     }
     total
 }

@@ -12,6 +12,7 @@ use entry_code::{FOURTH, SECOND, THIRD};
 use pair_words::put_pair;
 use plan_words::entry;
 use plans::{ENTRY_WORDS, NAMES, TYPES};
+use std::mem;
 
 // Entries are noted by their two types in TYPES places, with source types this far apart: pairs of the first eight types of each sheet have places of their own.
 const SPREAD: usize = 8;
@@ -21,10 +22,7 @@ fn same_types(plan: &[u32], h: usize, i: usize) -> bool
     requires { 2 * i + 2 ≤ length plan.now }
     ensures { result ≡ true → (h < i) × (get_or plan.now (2 * h + 1) 0 ≡ get_or plan.now (2 * i + 1) 0) }
 {
-    if i <= h {
-        return false;
-    }
-    at(plan, 2 * h + 1) == at(plan, 2 * i + 1)
+    h < i && at(plan, 2 * h + 1) == at(plan, 2 * i + 1)
 }
 
 // The words of entry h for entry i too.
@@ -74,16 +72,12 @@ fn put_next(
 }
 
 // The entry noted in the place of two types, which are in one word; entry i is noted in its stead. It is a hint: its types may be others.
-fn note(last: &mut [u32], types: usize, i: usize) -> usize
+fn note(last: &mut [u32; TYPES], types: usize, i: usize) -> usize
     requires { (types < 4294967296) × (i < 4096) }
+    ensures { length last.new ≡ 64 }
 {
     let k = (types + SPREAD * (types / TYPES)) % TYPES;
-    if k < last.len() {
-        let h = last[k] as usize;
-        last[k] = i as u32;
-        return h;
-    }
-    i
+    mem::replace(&mut last[k], i as u32) as usize
 }
 
 // The words of a plan's entries.
@@ -101,8 +95,7 @@ pub fn put_entries(
 {
     let mut last = [0u32; TYPES];
     let mut free = NAMES + ENTRY_WORDS * entries;
-    let mut i: usize = 0;
-    while i < entries {
+    for i in 0..entries {
         let h = note(&mut last, at(plan, 2 * i + 1), i);
         free = put_next(
             words,
@@ -115,6 +108,5 @@ pub fn put_entries(
             destination_half,
             destination_sheet,
         );
-        i += 1;
     }
 }

@@ -1,7 +1,7 @@
 // Which rows of a destination enum stand for which significant bits of a source enum: worked out once a call, so that no name is compared in a record.
 #![tactic(auto)]
 
-ghost use Rattle.std.specs.Prelude.{◌≡◌, ℕ, ◌+◌, ◌^◌, ◌≤◌, ◌<◌, min, max, length, get_or};
+ghost use Rattle.std.specs.Prelude.{◌≡◌, ℕ, ◌+◌, ◌^◌, ◌≤◌, ◌<◌, length, get_or};
 ghost use Rattle.table.specs.Table.{first_word, rows_word, layout_at, name_at};
 ghost use Rattle.table.specs.Rows.{row_named};
 ghost use Rattle.namesakes.specs.Named.{NamesOnce};
@@ -12,7 +12,7 @@ ghost use Rattle.enum_spans.specs.Span.{SpanFound};
 use namesakes::row_by_hint;
 use row_codes::{symbol_rows, value_bits};
 use table::read::{layout_at, row_word, type_word};
-use table::{FIRST, Found, NAME, NAME_LENGTH, ROWS};
+use table::{FIRST, NAME, NAME_LENGTH, ROWS};
 
 // A wider span has no words, nor has one of more bits than a word.
 pub const SPAN_MOST: u64 = 512;
@@ -23,9 +23,9 @@ const WORD_MOST: u64 = 4294967295;
 
 // Significant bits among which all symbols of an enum are: the lowest, and how many from there on.
 #[derive(Clone, Copy)]
-pub enum Span {
-    Of(u32, u32),
-    Wide,
+pub struct Span {
+    pub low: u32,
+    pub count: u32,
 }
 
 // The least bits that a row has, and those after the largest.
@@ -33,18 +33,6 @@ pub enum Span {
 struct Ends {
     low: u64,
     end: u64,
-}
-
-fn least(a: u64, b: u64) -> u64
-    ensures { result ≡ min a b }
-{
-    if a < b { a } else { b }
-}
-
-fn greatest(a: u64, b: u64) -> u64
-    ensures { result ≡ max a b }
-{
-    if a < b { b } else { a }
 }
 
 // The row of the destination enum that has the name of a source row, in one word. Most often it has the same number.
@@ -73,8 +61,8 @@ fn named_row(
         start,
         len,
     ) {
-        Found::At(found) => found as u32 + 1,
-        Found::Missing => 0,
+        Some(found) => found as u32 + 1,
+        None => 0,
     }
 }
 
@@ -85,24 +73,22 @@ fn ends_of(half: &[u32], first: usize, n: usize, precision: u32) -> Ends
 {
     let mut low = WORD_MOST;
     let mut end: u64 = 0;
-    let mut q: usize = 0;
-    while q < n {
+    for q in 0..n {
         let bits = value_bits(half, first + q, precision);
-        low = least(low, bits);
-        end = greatest(end, bits + 1);
-        q += 1;
+        low = low.min(bits);
+        end = end.max(bits + 1);
     }
     Ends { low, end }
 }
 
 // The span of the source type, where there is room for so many words.
-pub fn span_of(source_half: &[u32], source_type: usize, room: usize) -> Span
+pub fn span_of(source_half: &[u32], source_type: usize, room: usize) -> Option<Span>
     requires { SymbolsFormed source_half.now source_type }
     ensures { SpanFound source_half.now source_type room result }
 {
     let l = layout_at(source_half, source_type);
     if WORD_BITS < l.precision {
-        return Span::Wide;
+        return None;
     }
     let first = type_word(source_half, source_type, FIRST);
     let e = ends_of(
@@ -114,12 +100,15 @@ pub fn span_of(source_half: &[u32], source_type: usize, room: usize) -> Span
     let low = e.low;
     let end = e.end;
     if end <= low {
-        return Span::Of(0, 0);
+        return Some(Span { low: 0, count: 0 });
     }
-    if least(room as u64, SPAN_MOST) < end - low {
-        return Span::Wide;
+    if (room as u64).min(SPAN_MOST) < end - low {
+        return None;
     }
-    Span::Of(low as u32, (end - low) as u32)
+    Some(Span {
+        low: low as u32,
+        count: (end - low) as u32,
+    })
 }
 
 // Words of no symbol, as many as `count` from word `base` on.
@@ -127,11 +116,7 @@ fn clear(words: &mut [u32], base: usize, count: usize)
     requires { base + count ≤ length words.old }
     ensures { WordsPut words.old base count (λ q. 0) words.new }
 {
-    let mut q: usize = 0;
-    while q < count {
-        words[base + q] = 0;
-        q += 1;
-    }
+    words[base..base + count].fill(0);
 }
 
 // The word for these bits, where they are among the `count` from `low` on, whose words stand from word `base` on.
@@ -168,8 +153,7 @@ fn put_symbols(
     let l = layout_at(source_half, source_type);
     let first = type_word(source_half, source_type, FIRST);
     let rows = symbol_rows(source_half, source_type);
-    let mut i: usize = 0;
-    while i < rows {
+    for i in 0..rows {
         let row = first + i;
         let bits = value_bits(source_half, row, l.precision);
         let code = named_row(
@@ -181,7 +165,6 @@ fn put_symbols(
             row,
         );
         put_code(words, base, low as u64, count as usize, bits, code);
-        i += 1;
     }
 }
 

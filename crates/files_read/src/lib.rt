@@ -16,6 +16,7 @@ pub fn fill<R: Read>(from: &mut R, bytes: &mut [u8]) -> io::Result<usize>
     ensures end { IfOk result (λ n. n < length bytes.new → IsAtEnd (R.remaining from.new)) }
 {
     let mut n: usize = 0;
+    // A read brings as many bytes as it can, so no range has these steps, and no method of Read answers how many came before the end.
     while n < bytes.len() {
         let more = from.read(&mut bytes[n..])?;
         if more == 0 {

@@ -6,7 +6,7 @@ use Prim.Native.Nat.{ℕ, suc, ◌+◌, ◌-◌, ◌*◌, ◌/◌, ◌^◌, ◌�
 use native.Mathlib.Nat.{div-eq_of_lt, eq-zero-or-pos}
 use native.Mathlib.Omega.{arith}
 use lib.Dec.{eqb}
-use lib.Pow.{pow_pos, pow_mono, high}
+use lib.Pow.{high}
 use Rattle.answer.specs.declared.Given.TheVariants.{Whole}
 use Rattle.number.specs.Number.{valued, number_given}
 use Rattle.number.proofs.Range.{twice_half, valued_low, valued_high}
@@ -25,18 +25,6 @@ module _ (p r : ℕ) (some : 1 ≤ p) (small : r < 2 ^ p) where
       let l : r - 2 ^ (p - 1) < 2 ^ (p - 1) = omega arith in
       let e : r ≡ 1 * 2 ^ (p - 1) + (r - 2 ^ (p - 1)) = omega arith in
       ap (λ (x : ℕ). x / 2 ^ (p - 1)) e ∙ high 1 (p - 1) l
-
-  -- the top bit, and each number on the way to the magnitude, where a is p bits, all set
-  pub bounds : (a : ℕ) → a ≡ 2 ^ p - 1 → p ≤ 64
-      → (r / 2 ^ (p - 1) ≤ 1) × (r * (1 - r / 2 ^ (p - 1)) < 2 ^ 64) × (a - r + r / 2 ^ (p - 1) < 2 ^ 64)
-      × ((a - r + r / 2 ^ (p - 1)) * (r / 2 ^ (p - 1)) < 2 ^ 64) × (r * (1 - r / 2 ^ (p - 1)) + (a - r + r / 2 ^ (p - 1)) * (r / 2 ^ (p - 1)) < 2 ^ 64)
-  bounds a e most =
-      let m : 2 ^ p ≤ 2 ^ 64 = pow_mono most in
-      let u : 0 < 2 ^ (p - 1) = pow_pos (p - 1) in
-      ⊎_elim
-      (λ (z : 2 ^ (p - 1) - r ≡ 0). rw (set (omega arith)) (omega arith, omega arith, omega arith, omega arith, omega arith))
-      (λ (l : 0 < 2 ^ (p - 1) - r). rw (clear (omega arith)) (omega arith, omega arith, omega arith, omega arith, omega arith))
-      (eq-zero-or-pos (2 ^ (p - 1) - r))
 
   pub given_picked : Whole (eqb (r / 2 ^ (p - 1)) 1) (picked p r (r / 2 ^ (p - 1))) ≡ number_given (valued true p r)
   given_picked =

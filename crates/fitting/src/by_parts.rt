@@ -20,16 +20,17 @@ fn fit_negative(distance: u64, precision: u32, given: Given) -> Fitted
     let all = ones(precision);
     let farthest = ones(precision - 1);
     if farthest < distance {
-        return Fitted {
+        Fitted {
             raw: all - farthest,
             kind: BELOW,
             given,
-        };
-    }
-    Fitted {
-        raw: all - distance,
-        kind: NO_EXCEPTION,
-        given,
+        }
+    } else {
+        Fitted {
+            raw: all - distance,
+            kind: NO_EXCEPTION,
+            given,
+        }
     }
 }
 
@@ -38,20 +39,18 @@ pub fn fit_parts(p: Parts, l: Layout, given: Given) -> Fitted
     requires { Valid l }
     ensures { (result ≡ named given (fitted l (signed_by p.negative p.distance))) × (result.raw < 2 ^ l.precision) }
 {
-    if p.negative {
-        if l.signed {
-            return fit_negative(p.distance, l.precision, given);
+    if !p.negative {
+        Fitted {
+            given,
+            ..fit_unsigned(p.distance, l.signed, l.precision)
         }
-        return Fitted {
+    } else if l.signed {
+        fit_negative(p.distance, l.precision, given)
+    } else {
+        Fitted {
             raw: 0,
             kind: BELOW,
             given,
-        };
-    }
-    let f = fit_unsigned(p.distance, l.signed, l.precision);
-    Fitted {
-        raw: f.raw,
-        kind: f.kind,
-        given,
+        }
     }
 }

@@ -36,9 +36,10 @@ fn signed_bits(z: i64, precision: u32) -> u64
     ensures { result ≡ bits_of precision z }
 {
     if z < 0 {
-        return ones(precision) - (!z as u64);
+        ones(precision) - (!z as u64)
+    } else {
+        z as u64
     }
-    z as u64
 }
 
 // What is answered of a signed number or of an end of its range, whichever lies in the signed range of these many bits.
@@ -59,12 +60,12 @@ fn fit_signed(z: i64, precision: u32) -> Fitted
     let smallest = smallest_signed(precision);
     let given = given_signed(z);
     if largest < z {
-        return signed_fitted(largest, precision, ABOVE, given);
+        signed_fitted(largest, precision, ABOVE, given)
+    } else if z < smallest {
+        signed_fitted(smallest, precision, BELOW, given)
+    } else {
+        signed_fitted(z, precision, NO_EXCEPTION, given)
     }
-    if z < smallest {
-        return signed_fitted(smallest, precision, BELOW, given);
-    }
-    signed_fitted(z, precision, NO_EXCEPTION, given)
 }
 
 // The largest number of either range: a u64, since neither range ends below 0.
@@ -73,9 +74,10 @@ fn largest_of(signed: bool, precision: u32) -> u64
     ensures { pos result ≡ largest signed precision }
 {
     if signed {
-        return ones(precision - 1);
+        ones(precision - 1)
+    } else {
+        ones(precision)
     }
-    ones(precision)
 }
 
 // A number that is not negative brought into either range.
@@ -86,16 +88,17 @@ fn fit_unsigned(n: u64, signed: bool, precision: u32) -> Fitted
     let largest = largest_of(signed, precision);
     let given = Given::Whole(false, n);
     if largest < n {
-        return Fitted {
+        Fitted {
             raw: largest,
             kind: ABOVE,
             given,
-        };
-    }
-    Fitted {
-        raw: n,
-        kind: NO_EXCEPTION,
-        given,
+        }
+    } else {
+        Fitted {
+            raw: n,
+            kind: NO_EXCEPTION,
+            given,
+        }
     }
 }
 
@@ -105,13 +108,14 @@ fn fit_into_unsigned(z: i64, precision: u32) -> Fitted
     ensures { result ≡ fitted_to false precision z }
 {
     if z < 0 {
-        return Fitted {
+        Fitted {
             raw: 0,
             kind: BELOW,
             given: given_signed(z),
-        };
+        }
+    } else {
+        fit_unsigned(z as u64, false, precision)
     }
-    fit_unsigned(z as u64, false, precision)
 }
 
 // z brought into l's range: its significant bits, and the kind of exception.
@@ -120,27 +124,19 @@ pub fn fit(z: Number, l: Layout) -> Fitted
     ensures { (result ≡ fitted l (meaning z)) × (result.raw < 2 ^ l.precision) }
 {
     match z {
-        Number::Signed(z) => {
-            if l.signed {
-                return fit_signed(z, l.precision);
-            }
-            fit_into_unsigned(z, l.precision)
-        }
+        Number::Signed(z) if l.signed => fit_signed(z, l.precision),
+        Number::Signed(z) => fit_into_unsigned(z, l.precision),
         Number::Unsigned(n) => fit_unsigned(n, l.signed, l.precision),
     }
 }
 
-// The bits of a number of p bits in q bits, where all numbers of p bits have theirs: the sign is carried up by a product, so
+// The bits of a signed number of p bits in q bits, where all numbers of p bits have theirs: the sign is carried up by a product, so
 // that no branch hangs on it.
-fn widened(raw: u64, p: u32, signed: bool, q: u32) -> u64
+fn widened(raw: u64, p: u32, q: u32) -> u64
     requires { (1 ≤ p) × (p ≤ q) × (q ≤ 64) × (raw < 2 ^ p) }
-    ensures { (record { raw = result; kind = 0; given = number_given (valued signed p raw) } ≡ fitted_to signed q (valued signed p raw)) × (result < 2 ^ q) }
+    ensures { (record { raw = result; kind = 0; given = number_given (valued true p raw) } ≡ fitted_to true q (valued true p raw)) × (result < 2 ^ q) }
 {
-    if signed {
-        raw + (ones(q) - ones(p)) * (raw >> (p - 1))
-    } else {
-        raw
-    }
+    raw + (ones(q) - ones(p)) * (raw >> (p - 1))
 }
 
 // What was given, where it is the number of p bits in two's complement: products pick the magnitude, so that no branch hangs on the sign.
@@ -161,33 +157,22 @@ pub fn fit_raw(l: Layout, m: Layout, raw: u64) -> Fitted
     let p = l.precision;
     let q = m.precision;
     if l.signed {
-        if m.signed {
-            if p <= q {
-                return Fitted {
-                    raw: widened(raw, p, true, q),
-                    kind: NO_EXCEPTION,
-                    given: given_raw(raw, p),
-                };
-            }
+        if m.signed && p <= q {
+            return Fitted {
+                raw: widened(raw, p, q),
+                kind: NO_EXCEPTION,
+                given: given_raw(raw, p),
+            };
         }
         return fit(number_of(true, p, raw), m);
     }
-    if m.signed {
-        if p < q {
-            return Fitted {
-                raw,
-                kind: NO_EXCEPTION,
-                given: Given::Whole(false, raw),
-            };
-        }
-        return fit_unsigned(raw, true, q);
-    }
-    if p <= q {
+    let inside = if m.signed { p < q } else { p <= q };
+    if inside {
         return Fitted {
             raw,
             kind: NO_EXCEPTION,
             given: Given::Whole(false, raw),
         };
     }
-    fit_unsigned(raw, false, q)
+    fit_unsigned(raw, m.signed, q)
 }

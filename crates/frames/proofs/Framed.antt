@@ -3,8 +3,7 @@ use mathlib.Core.Path.{◌≡◌, refl, sym, ap, subst, ◌∙◌}
 use mathlib.Core.Bool.{Bool}
 use mathlib.Core.List.{List, []}
 use Prim.Native.Nat.{ℕ, ◌≤◌}
-use Rattle.answer.specs.declared.Answer.TheVariants as answer
-use Rattle.answer.specs.declared.Given.{Given}
+use Rattle.std.specs.Prelude.{None, Result, Ok, Err}
 use Rattle.datatype.specs.Datatype.{Datatype, size}
 use Rattle.datatype.specs.WellFormed.{WellFormed}
 use Rattle.datatype.proofs.Stopping.{stopping}
@@ -12,19 +11,16 @@ use Rattle.table.specs.Table.{type_at, size_word}
 use Rattle.table.specs.Words.{Reads}
 use Rattle.records.specs.Plan.{Entry, plan_of}
 use Rattle.plans.specs.PlanWords.{entries_at, entries_from, Job}
-use Rattle.loops.specs.declared.Stop.{Stop}
-use Rattle.loops.specs.declared.Stop.TheVariants.{At, Nowhere}
+use Rattle.loops.specs.declared.Exception.{Exception}
 use Rattle.loops.specs.Stops.{stop_by}
 use Rattle.obeying.specs.Obeying.{StopsOf}
 use Rattle.obeying.proofs.StopMatches.{stopping_of}
 use Rattle.plan_making.specs.Made.{Room, Made}
 use Rattle.plan_making.proofs.Making.{large_room, job}
 use Rattle.runs.specs.Run.Checked.{passed}
-use Rattle.conversion.specs.Call.{form_of, source_of, background_of, HasRecords, LeavesIn, Passes, Decided, LookSays}
-use Rattle.conversion.specs.declared.Looked.{Looked}
-use Rattle.conversion.specs.declared.Looked.TheVariants.{Found, Go}
+use Rattle.conversion.specs.Call.{form_of, source_of, background_of, HasRecords, LeavesIn, Passes, stopped, StopSays, Decided, LookSays}
 use Rattle.conversion.proofs.Checking.{read_size, target_is}
-use Rattle.conversion.proofs.Parts.{stops_with, stop_said, none_said, none_planned}
+use Rattle.conversion.proofs.Parts.{stops_with, stop_says, none_planned}
 
 module _ {b : Bool} {ss ds : List ℕ} {n out other : ℕ} {ws : List ℕ} {i : ℕ} {wd : List ℕ} {k : ℕ} (passes : Passes b ss ds n out other ws i wd k) {s : ℕ}
     (rs : Reads (size_word ws i) s) where
@@ -59,33 +55,25 @@ large_again {ds = ds} {wd = wd} {k = k} passes hp hw = rw (hp, hw) (large_room d
 
 -- ---- what is looked for by that plan
 
-module _ (b : Bool) (n : ℕ) (o p : List ℕ) (S D : Datatype) (h s : ℕ) (few : h ≤ 1) where
-  module _ (sized : s ≡ size S) {stop : Stop} (found : stop ≡ stop_by (plan_of S (stopping h D)) s (source_of b o p) 0 n) where
-    pub found_stop : {i c kind : ℕ} {given : Given} → stop ≡ At i c kind given → LookSays h S D n (source_of b o p) (Found i c kind given)
-    found_stop e = stop_said (form_of b) n (source_of b o p) (background_of b o p) S D h s few sized stop found e
-
-    pub found_none : stop ≡ Nowhere → LookSays h S D n (source_of b o p) (Go 0)
-    found_none e = none_said (form_of b) n (source_of b o p) (background_of b o p) S D h s few sized stop found e
-
 -- no leaf obeys stop
 module _ (b : Bool) (n : ℕ) (o p ss ws : List ℕ) (i : ℕ) (ds wd : List ℕ) (k h : ℕ) (few : h ≤ 1) (formed : WellFormed (type_at wd ds k)) {plan words : List ℕ} {e : ℕ}
     (made : (E : Datatype) → StopsOf h (type_at wd ds k) E → Made ss ws i ds wd E plan e words) where
-  pub none_stops : e ≡ 0 → LookSays h (type_at ws ss i) (type_at wd ds k) n (source_of b o p) (Go 0)
+  pub none_stops : e ≡ 0 → StopSays h (type_at ws ss i) (type_at wd ds k) n (source_of b o p) None
   unfolding entries_from
   none_stops z =
       let D = type_at wd ds k in
       let S = type_at ws ss i in
       let empty : plan_of S (stopping h D) ≡ [] = sym (made (stopping h D) (stopping_of h D formed)).entries ∙ ap (λ (m : ℕ). entries_at plan m ws ss wd ds) z in
-      found_none b n o p S D h (size S) few refl
-      (sym (ap (λ (es : List Entry). stop_by es (size S) (source_of b o p) 0 n) empty ∙ none_planned (size S) (source_of b o p) 0 n)) refl
+      stop_says n (source_of b o p) S D h (size S) few refl
+      (sym (ap (λ (es : List Entry). stop_by es (size S) (source_of b o p) 0 n) empty ∙ none_planned (size S) (source_of b o p) 0 n))
 
 -- ---- what follows from what was looked for
 
-module _ (b : Bool) (n : ℕ) (o p : List ℕ) (S D : Datatype) (h : ℕ) {r : Looked} (says : LookSays h S D n (source_of b o p) r) where
-  pub look_decided : {scan : ℕ} → r ≡ Go scan → Decided h S D n (source_of b o p) scan
+module _ (b : Bool) (n : ℕ) (o p : List ℕ) (S D : Datatype) (h : ℕ) {r : Result Bool Exception} (says : LookSays h S D n (source_of b o p) r) where
+  pub look_decided : {scan : Bool} → r ≡ Ok scan → Decided h S D n (source_of b o p) scan
   look_decided e = subst (LookSays h S D n (source_of b o p)) e says
 
-  pub look_stopped : {i c kind : ℕ} {given : Given} → r ≡ Found i c kind given → LeavesIn b h n o p (passed S D) (answer.Stop i c kind given) o
+  pub look_stopped : {e : Exception} → r ≡ Err e → LeavesIn b h n o p (passed S D) (stopped e) o
   look_stopped e =
       rw (target_is b o p) at
       (stops_with (form_of b) n (source_of b o p) (background_of b o p) S D h (subst (LookSays h S D n (source_of b o p)) e says))

@@ -6,12 +6,13 @@ ghost use Rattle.datatype.specs.Datatype.{size};
 ghost use Rattle.table.specs.Table.{type_at};
 ghost use Rattle.runs.specs.Run.Checked.{passed};
 ghost use Rattle.plan_making.specs.Made.{Room};
-ghost use Rattle.conversion.specs.Call.{source_of, LookSays, Passes, LeavesIn};
+ghost use Rattle.conversion.specs.Call.{source_of, answer_of, StopSays, LookSays, Passes, LeavesIn};
 
 use answer::Answer;
-use conversion::{Conversion, Looked};
+use conversion::Conversion;
 use converting::{convert_planned, first_stop};
-use loops::Stop;
+use datatype::STOP;
+use loops::Exception;
 use obeying::asks_other;
 use plan_making::{make_plan, make_stop_plan};
 use table::SIZE;
@@ -20,7 +21,7 @@ use table::read::type_word;
 // A destination record of at most so many bytes goes with the small arrays.
 const SMALL: usize = 128;
 
-// What stops the call, by a plan to the leaves that obey stop. Nothing is written but the arrays of the plan.
+// The exception that stops the call, by a plan to the leaves that obey stop. Nothing is written but the arrays of the plan.
 fn look_by_plan(
     x: Conversion,
     source_sheet: &[u8],
@@ -31,9 +32,9 @@ fn look_by_plan(
     destination_half: &[u32],
     plan: &mut [u32],
     words: &mut [u32],
-) -> Looked
+) -> Option<Exception>
     requires { Passes x.in_place source_sheet.now destination_sheet.now x.count (length out.now) (length other.now) source_half.now x.source destination_half.now x.destination × (x.handling ≤ 1) × Room destination_sheet.now destination_half.now x.destination (length plan.old) (length words.old) }
-    ensures { LookSays x.handling (type_at source_half.now source_sheet.now x.source) (type_at destination_half.now destination_sheet.now x.destination) x.count (source_of x.in_place out.now other.now) result }
+    ensures { StopSays x.handling (type_at source_half.now source_sheet.now x.source) (type_at destination_half.now destination_sheet.now x.destination) x.count (source_of x.in_place out.now other.now) result }
 {
     let source_type = x.source;
     let destination_type = x.destination;
@@ -49,10 +50,10 @@ fn look_by_plan(
         words,
     );
     if entries == 0 {
-        return Looked::Go(0);
+        return None;
     }
     let source_size = type_word(source_half, source_type, SIZE);
-    match first_stop(
+    first_stop(
         x.in_place,
         out,
         other,
@@ -63,13 +64,11 @@ fn look_by_plan(
         source_half,
         destination_half,
         words,
-    ) {
-        Stop::At(i, b, kind, given) => Looked::Found(i, b, kind, given),
-        Stop::Nowhere => Looked::Go(0),
-    }
+    )
 }
 
-// What is known of the call before its whole plan is made. Where no member asks for another handling than the call's, no plan is needed for that.
+// What is known of the call before its whole plan is made: the exception that stops it, or whether one is to be looked for by that plan. Where no member asks for
+// another handling than the call's, no plan is needed for that.
 fn look(
     x: Conversion,
     source_sheet: &[u8],
@@ -80,13 +79,13 @@ fn look(
     destination_half: &[u32],
     plan: &mut [u32],
     words: &mut [u32],
-) -> Looked
+) -> Result<bool, Exception>
     requires { Passes x.in_place source_sheet.now destination_sheet.now x.count (length out.now) (length other.now) source_half.now x.source destination_half.now x.destination × (x.handling ≤ 1) × Room destination_sheet.now destination_half.now x.destination (length plan.old) (length words.old) }
     ensures { LookSays x.handling (type_at source_half.now source_sheet.now x.source) (type_at destination_half.now destination_sheet.now x.destination) x.count (source_of x.in_place out.now other.now) result }
 {
     let handling = x.handling;
     if asks_other(destination_half, x.destination, handling) {
-        return look_by_plan(
+        return match look_by_plan(
             x,
             source_sheet,
             destination_sheet,
@@ -96,9 +95,12 @@ fn look(
             destination_half,
             plan,
             words,
-        );
+        ) {
+            Some(first) => Err(first),
+            None => Ok(false),
+        };
     }
-    Looked::Go(handling)
+    Ok(handling == STOP)
 }
 
 // A plan of at most 128 entries. The plan is made once, and then the records go by it; where members have words, it may be that one to fewer leaves is made
@@ -112,15 +114,15 @@ fn convert_small(
     other: &[u8],
     source_half: &[u32],
     destination_half: &[u32],
-) -> Answer
+) -> Result<u64, Exception>
     requires { Passes x.in_place source_sheet.now destination_sheet.now x.count (length out.old) (length other.now) source_half.now x.source destination_half.now x.destination × (x.handling ≤ 1) × (size (type_at destination_half.now destination_sheet.now x.destination) ≤ 128) }
-    ensures { LeavesIn x.in_place x.handling x.count out.old other.now (passed (type_at source_half.now source_sheet.now x.source) (type_at destination_half.now destination_sheet.now x.destination)) result out.new }
+    ensures { LeavesIn x.in_place x.handling x.count out.old other.now (passed (type_at source_half.now source_sheet.now x.source) (type_at destination_half.now destination_sheet.now x.destination)) (answer_of result) out.new }
 {
     let source_type = x.source;
     let destination_type = x.destination;
     let mut plan = [0u32; 256];
     let mut words = [0u32; 2048];
-    match look(
+    let scan = look(
         x,
         source_sheet,
         destination_sheet,
@@ -130,37 +132,33 @@ fn convert_small(
         destination_half,
         &mut plan,
         &mut words,
-    ) {
-        Looked::Found(i, b, kind, given) => Answer::Stop(i, b, kind, given),
-        Looked::Go(scan) => {
-            let entries = make_plan(
-                source_sheet,
-                destination_sheet,
-                source_half,
-                source_type,
-                destination_half,
-                destination_type,
-                &mut plan,
-                &mut words,
-            );
-            let source_size = type_word(source_half, source_type, SIZE);
-            let destination_size = type_word(destination_half, destination_type, SIZE);
-            convert_planned(
-                x.in_place,
-                scan,
-                out,
-                other,
-                x.count,
-                source_size,
-                destination_size,
-                &plan,
-                entries,
-                source_half,
-                destination_half,
-                &words,
-            )
-        }
-    }
+    )?;
+    let entries = make_plan(
+        source_sheet,
+        destination_sheet,
+        source_half,
+        source_type,
+        destination_half,
+        destination_type,
+        &mut plan,
+        &mut words,
+    );
+    let source_size = type_word(source_half, source_type, SIZE);
+    let destination_size = type_word(destination_half, destination_type, SIZE);
+    convert_planned(
+        x.in_place,
+        scan,
+        out,
+        other,
+        x.count,
+        source_size,
+        destination_size,
+        &plan,
+        entries,
+        source_half,
+        destination_half,
+        &words,
+    )
 }
 
 // A plan of at most 4,096 entries. It says again what convert_small says: a part that both shared would leave two functions so short that the compiler would put them,
@@ -174,15 +172,15 @@ fn convert_large(
     other: &[u8],
     source_half: &[u32],
     destination_half: &[u32],
-) -> Answer
+) -> Result<u64, Exception>
     requires { Passes x.in_place source_sheet.now destination_sheet.now x.count (length out.old) (length other.now) source_half.now x.source destination_half.now x.destination × (x.handling ≤ 1) }
-    ensures { LeavesIn x.in_place x.handling x.count out.old other.now (passed (type_at source_half.now source_sheet.now x.source) (type_at destination_half.now destination_sheet.now x.destination)) result out.new }
+    ensures { LeavesIn x.in_place x.handling x.count out.old other.now (passed (type_at source_half.now source_sheet.now x.source) (type_at destination_half.now destination_sheet.now x.destination)) (answer_of result) out.new }
 {
     let source_type = x.source;
     let destination_type = x.destination;
     let mut plan = [0u32; 8192];
     let mut words = [0u32; 20480];
-    match look(
+    let scan = look(
         x,
         source_sheet,
         destination_sheet,
@@ -192,36 +190,42 @@ fn convert_large(
         destination_half,
         &mut plan,
         &mut words,
-    ) {
-        Looked::Found(i, b, kind, given) => Answer::Stop(i, b, kind, given),
-        Looked::Go(scan) => {
-            let entries = make_plan(
-                source_sheet,
-                destination_sheet,
-                source_half,
-                source_type,
-                destination_half,
-                destination_type,
-                &mut plan,
-                &mut words,
-            );
-            let source_size = type_word(source_half, source_type, SIZE);
-            let destination_size = type_word(destination_half, destination_type, SIZE);
-            convert_planned(
-                x.in_place,
-                scan,
-                out,
-                other,
-                x.count,
-                source_size,
-                destination_size,
-                &plan,
-                entries,
-                source_half,
-                destination_half,
-                &words,
-            )
-        }
+    )?;
+    let entries = make_plan(
+        source_sheet,
+        destination_sheet,
+        source_half,
+        source_type,
+        destination_half,
+        destination_type,
+        &mut plan,
+        &mut words,
+    );
+    let source_size = type_word(source_half, source_type, SIZE);
+    let destination_size = type_word(destination_half, destination_type, SIZE);
+    convert_planned(
+        x.in_place,
+        scan,
+        out,
+        other,
+        x.count,
+        source_size,
+        destination_size,
+        &plan,
+        entries,
+        source_half,
+        destination_half,
+        &words,
+    )
+}
+
+// The answer of a call whose records were converted, or whose first exception kept them from it.
+fn answer_of(converted: Result<u64, Exception>) -> Answer
+    ensures { result ≡ answer_of converted }
+{
+    match converted {
+        Ok(count) => Answer::Done(count),
+        Err(first) => Answer::Stop(first.record, first.byte, first.kind, first.given),
     }
 }
 
@@ -249,7 +253,7 @@ pub fn copy_framed(
         destination: destination_type,
     };
     if type_word(destination_half, destination_type, SIZE) <= SMALL {
-        return convert_small(
+        return answer_of(convert_small(
             x,
             source_sheet,
             destination_sheet,
@@ -257,9 +261,9 @@ pub fn copy_framed(
             other,
             source_half,
             destination_half,
-        );
+        ));
     }
-    convert_large(
+    answer_of(convert_large(
         x,
         source_sheet,
         destination_sheet,
@@ -267,7 +271,7 @@ pub fn copy_framed(
         other,
         source_half,
         destination_half,
-    )
+    ))
 }
 
 pub fn replace_framed(
@@ -293,7 +297,7 @@ pub fn replace_framed(
         destination: destination_type,
     };
     if type_word(destination_half, destination_type, SIZE) <= SMALL {
-        return convert_small(
+        return answer_of(convert_small(
             x,
             source_sheet,
             destination_sheet,
@@ -301,9 +305,9 @@ pub fn replace_framed(
             other,
             source_half,
             destination_half,
-        );
+        ));
     }
-    convert_large(
+    answer_of(convert_large(
         x,
         source_sheet,
         destination_sheet,
@@ -311,5 +315,5 @@ pub fn replace_framed(
         other,
         source_half,
         destination_half,
-    )
+    ))
 }

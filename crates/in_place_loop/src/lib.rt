@@ -40,8 +40,7 @@ fn replace_up(
         words,
     );
     let mut total = done.raised;
-    let mut i = done.records;
-    while i < count {
+    for i in done.records..count {
         total += replace_record(
             buf,
             background,
@@ -55,7 +54,6 @@ fn replace_up(
             destination_half,
             words,
         );
-        i += 1;
     }
     total
 }
@@ -91,9 +89,8 @@ fn replace_down(
         words,
     );
     let mut total = done.raised;
-    let mut i = count - done.records;
-    while 0 < i {
-        i -= 1;
+    let left = count - done.records;
+    for i in (0..left).rev() {
         total += replace_record(
             buf,
             background,

@@ -19,7 +19,7 @@ use name_marks::{mark_of, put_mark, raise_end};
 use row_rules::member::may_place;
 use row_rules::product::total;
 use row_rules::value::may_list;
-use sheet_steps::{Judged, MOST_BYTES, MOST_ROWS, MOST_TYPES, Total};
+use sheet_steps::{Counts, MOST_BYTES, MOST_ROWS, MOST_TYPES};
 use table::read::{layout_at, type_word};
 use table::{CLASS, COMPOUND, ENUM, HALF, INT, REAL, SIZE};
 use table_records::{
@@ -28,39 +28,45 @@ use table_records::{
 };
 
 // The record of the next type, where there is room for it.
-fn next_type(half: &mut [u32], types: u32, rows: u32, r: [u32; 16]) -> Judged
-    requires { Holds half.old types rows }
-    ensures { TypeAdded half.old half.new types rows r result }
+fn next_type(half: &mut [u32], so_far: Counts, r: [u32; 16]) -> Option<Counts>
+    requires { Holds half.old so_far.types so_far.rows }
+    ensures { TypeAdded half.old half.new so_far.types so_far.rows r result }
 {
-    if MOST_TYPES <= types {
-        return Judged::Refused;
+    if MOST_TYPES <= so_far.types {
+        return None;
     }
-    table::store::put_type(half, types as usize, r);
-    Judged::Accepted(types + 1, rows)
+    table::store::put_type(half, so_far.types as usize, r);
+    Some(Counts {
+        types: so_far.types + 1,
+        ..so_far
+    })
 }
 
 // The record of the next row, one more of the newest type, whose name has this mark, where there is room for it.
-fn next_row(half: &mut [u32], types: u32, rows: u32, mark: usize, r: [u32; 8]) -> Judged
-    requires { Holds half.old types rows × (0 < types) × (mark < 512) }
-    ensures { RowAdded half.old half.new mark types rows r result }
+fn next_row(half: &mut [u32], so_far: Counts, mark: usize, r: [u32; 8]) -> Option<Counts>
+    requires { Holds half.old so_far.types so_far.rows × (0 < so_far.types) × (mark < 512) }
+    ensures { RowAdded half.old half.new mark so_far.types so_far.rows r result }
 {
-    if MOST_ROWS <= rows {
-        return Judged::Refused;
+    if MOST_ROWS <= so_far.rows {
+        return None;
     }
-    let i = (types - 1) as usize;
-    table::store::add_row(half, i, rows as usize, r);
-    put_mark(half, mark, rows + 1);
-    Judged::Accepted(types, rows + 1)
+    let i = (so_far.types - 1) as usize;
+    table::store::add_row(half, i, so_far.rows as usize, r);
+    put_mark(half, mark, so_far.rows + 1);
+    Some(Counts {
+        rows: so_far.rows + 1,
+        ..so_far
+    })
 }
 
-pub fn judge_atomic(half: &mut [u32], sheet: &[u8], types: u32, rows: u32, l: Layout) -> Judged
-    requires { Holds half.old types rows × Noted half.old sheet.now types rows }
-    ensures { Judges half.new sheet.now (judged_after (so_far_at half.old sheet.now types rows) (atomic_line l)) result }
+pub fn judge_atomic(half: &mut [u32], sheet: &[u8], so_far: Counts, l: Layout) -> Option<Counts>
+    requires { Holds half.old so_far.types so_far.rows × Noted half.old sheet.now so_far.types so_far.rows }
+    ensures { Judges half.new sheet.now (judged_after (so_far_at half.old sheet.now so_far.types so_far.rows) (atomic_line l)) result }
 {
     if !layout::is_valid(l) {
-        return Judged::Refused;
+        return None;
     }
-    next_type(half, types, rows, atomic_record(l, rows))
+    next_type(half, so_far, atomic_record(l, so_far.rows))
 }
 
 // All bits of 8 bytes.
@@ -82,19 +88,18 @@ fn double(order: Order) -> Layout
 pub fn judge_real(
     half: &mut [u32],
     sheet: &[u8],
-    types: u32,
-    rows: u32,
+    so_far: Counts,
     size: u32,
     order: Order,
-) -> Judged
-    requires { Holds half.old types rows × Noted half.old sheet.now types rows }
-    ensures { Judges half.new sheet.now (judged_after (so_far_at half.old sheet.now types rows) (real_line size order)) result }
+) -> Option<Counts>
+    requires { Holds half.old so_far.types so_far.rows × Noted half.old sheet.now so_far.types so_far.rows }
+    ensures { Judges half.new sheet.now (judged_after (so_far_at half.old sheet.now so_far.types so_far.rows) (real_line size order)) result }
 {
     if size != 8 {
-        return Judged::Refused;
+        return None;
     }
     let l = double(order);
-    next_type(half, types, rows, real_record(l, rows))
+    next_type(half, so_far, real_record(l, so_far.rows))
 }
 
 // The type is an int. A class above 5 reads as one too.
@@ -108,60 +113,59 @@ fn is_int(half: &[u32], type_number: usize) -> bool
     REAL < class
 }
 
-pub fn judge_enum(half: &mut [u32], sheet: &[u8], types: u32, rows: u32, base: u32) -> Judged
-    requires { Holds half.old types rows × Noted half.old sheet.now types rows }
-    ensures { Judges half.new sheet.now (judged_after (so_far_at half.old sheet.now types rows) (enum_line base)) result }
+pub fn judge_enum(half: &mut [u32], sheet: &[u8], so_far: Counts, base: u32) -> Option<Counts>
+    requires { Holds half.old so_far.types so_far.rows × Noted half.old sheet.now so_far.types so_far.rows }
+    ensures { Judges half.new sheet.now (judged_after (so_far_at half.old sheet.now so_far.types so_far.rows) (enum_line base)) result }
 {
-    if types <= base {
-        return Judged::Refused;
+    if so_far.types <= base {
+        return None;
     }
     let b = base as usize;
     if !is_int(half, b) {
-        return Judged::Refused;
+        return None;
     }
     let l = layout_at(half, b);
-    next_type(half, types, rows, enum_record(l, rows))
+    next_type(half, so_far, enum_record(l, so_far.rows))
 }
 
 pub fn judge_value(
     half: &mut [u32],
     sheet: &[u8],
-    types: u32,
-    rows: u32,
+    so_far: Counts,
     start: usize,
     len: usize,
     negative: bool,
     distance: u64,
-) -> Judged
-    requires { Holds half.old types rows × Noted half.old sheet.now types rows × (start < 4294967296) × (len < 4294967296) }
-    ensures { Judges half.new sheet.now (judged_after (so_far_at half.old sheet.now types rows) (value_line (bytes_at sheet.now start len) (signed_by negative distance))) result }
+) -> Option<Counts>
+    requires { Holds half.old so_far.types so_far.rows × Noted half.old sheet.now so_far.types so_far.rows × (start < 4294967296) × (len < 4294967296) }
+    ensures { Judges half.new sheet.now (judged_after (so_far_at half.old sheet.now so_far.types so_far.rows) (value_line (bytes_at sheet.now start len) (signed_by negative distance))) result }
 {
-    if types == 0 {
-        return Judged::Refused;
+    if so_far.types == 0 {
+        return None;
     }
-    let i = (types - 1) as usize;
+    let i = (so_far.types - 1) as usize;
     if type_word(half, i, CLASS) != ENUM {
-        return Judged::Refused;
+        return None;
     }
     let mark = mark_of(sheet, start, len);
     if !may_list(half, sheet, i, start, len, mark, negative, distance) {
-        return Judged::Refused;
+        return None;
     }
     let r = value_record(start as u32, len as u32, negative, distance);
-    next_row(half, types, rows, mark, r)
+    next_row(half, so_far, mark, r)
 }
 
-pub fn judge_compound(half: &mut [u32], sheet: &[u8], types: u32, rows: u32, size: u32) -> Judged
-    requires { Holds half.old types rows × Noted half.old sheet.now types rows }
-    ensures { Judges half.new sheet.now (judged_after (so_far_at half.old sheet.now types rows) (compound_line size)) result }
+pub fn judge_compound(half: &mut [u32], sheet: &[u8], so_far: Counts, size: u32) -> Option<Counts>
+    requires { Holds half.old so_far.types so_far.rows × Noted half.old sheet.now so_far.types so_far.rows }
+    ensures { Judges half.new sheet.now (judged_after (so_far_at half.old sheet.now so_far.types so_far.rows) (compound_line size)) result }
 {
     if size < 1 {
-        return Judged::Refused;
+        return None;
     }
     if MOST_BYTES < size {
-        return Judged::Refused;
+        return None;
     }
-    next_type(half, types, rows, compound_record(size, rows))
+    next_type(half, so_far, compound_record(size, so_far.rows))
 }
 
 // The compound may have a member of this name and width at offset. The half is lent whole, with a constant for its length, so that compiled code compares no
@@ -194,34 +198,33 @@ fn may_add(
 pub fn judge_member(
     half: &mut [u32],
     sheet: &[u8],
-    types: u32,
-    rows: u32,
+    so_far: Counts,
     start: usize,
     len: usize,
     offset: u32,
     kind: u32,
     word: Word,
-) -> Judged
-    requires { Holds half.old types rows × Noted half.old sheet.now types rows × (start < 4294967296) × (len < 4294967296) }
-    ensures { Judges half.new sheet.now (judged_after (so_far_at half.old sheet.now types rows) (member_line (bytes_at sheet.now start len) offset kind word)) result }
+) -> Option<Counts>
+    requires { Holds half.old so_far.types so_far.rows × Noted half.old sheet.now so_far.types so_far.rows × (start < 4294967296) × (len < 4294967296) }
+    ensures { Judges half.new sheet.now (judged_after (so_far_at half.old sheet.now so_far.types so_far.rows) (member_line (bytes_at sheet.now start len) offset kind word)) result }
 {
-    if types == 0 {
-        return Judged::Refused;
+    if so_far.types == 0 {
+        return None;
     }
-    if types - 1 <= kind {
-        return Judged::Refused;
+    if so_far.types - 1 <= kind {
+        return None;
     }
-    let i = (types - 1) as usize;
+    let i = (so_far.types - 1) as usize;
     if type_word(half, i, CLASS) != COMPOUND {
-        return Judged::Refused;
+        return None;
     }
     let width = type_word(half, kind as usize, SIZE);
     let mark = mark_of(sheet, start, len);
     if !may_add(half, sheet, i, start, len, mark, offset as usize, width) {
-        return Judged::Refused;
+        return None;
     }
     let r = member_record(start as u32, len as u32, offset, kind, word);
-    let judged = next_row(half, types, rows, mark, r);
+    let judged = next_row(half, so_far, mark, r);
     raise_end(half, i, (offset as usize + width) as u32);
     judged
 }
@@ -229,23 +232,20 @@ pub fn judge_member(
 pub fn judge_array(
     half: &mut [u32],
     sheet: &[u8],
-    types: u32,
-    rows: u32,
+    so_far: Counts,
     base: u32,
     dims: [u32; 4],
-) -> Judged
-    requires { Holds half.old types rows × Noted half.old sheet.now types rows }
-    ensures { Judges half.new sheet.now (judged_after (so_far_at half.old sheet.now types rows) (array_line base (up_to_zero dims))) result }
+) -> Option<Counts>
+    requires { Holds half.old so_far.types so_far.rows × Noted half.old sheet.now so_far.types so_far.rows }
+    ensures { Judges half.new sheet.now (judged_after (so_far_at half.old sheet.now so_far.types so_far.rows) (array_line base (up_to_zero dims))) result }
 {
-    if types <= base {
-        return Judged::Refused;
+    if so_far.types <= base {
+        return None;
     }
     if dims[0] == 0 {
-        return Judged::Refused;
+        return None;
     }
     let size = type_word(half, base as usize, SIZE);
-    match total(dims, size) {
-        Total::Bytes(z) => next_type(half, types, rows, array_record(z, base, rows, dims)),
-        Total::TooMany => Judged::Refused,
-    }
+    let bytes = total(dims, size)?;
+    next_type(half, so_far, array_record(bytes, base, so_far.rows, dims))
 }

@@ -4,7 +4,7 @@ use mathlib.Core.Bool.{Bool, true, false, ◌&&◌, and-eq-true_iff}
 use Prim.Native.Nat.{ℕ, ◌+◌, ◌*◌, ◌≤◌, ◌<◌, max}
 use native.Mathlib.Omega.{arith}
 use lib.Dec.{leb}
-use borrow.Author.Tests.{leb-true, leb-false, le-leb, lt-leb}
+use borrow.Author.Tests.{leb-true, leb-false, le-leb}
 use Rattle.layout.specs.declared.Layout.{Layout}
 use Rattle.layout.specs.Layout.{Valid}
 use Rattle.layout.specs.Setters.{resized, bytes_for, size_with_field, field_allowed}
@@ -41,20 +41,6 @@ takes_allowed l o p t =
     let v = t.given in
     let s : max l.size.0 (bytes_for (o + p)) ≤ 8 = omega arith in
     rw (le-leb _ _ t.some, le-leb _ _ t.most, field_size l o p) (le-leb _ _ s)
-
--- what is not allowed: another precision than 1 to 64, and a field that ends past bit 64
-pub wrong_precision : (l : Layout) (o p : ℕ) → (leb 1 p && leb p 64) ≡ false → field_allowed l o p ≡ false
-wrong_precision l o p h = rw h
-
-pub past_end : (l : Layout) (o p : ℕ) → 64 < o + p → field_allowed l o p ≡ false
-past_end l o p h = rw (field_size l o p, lt-leb _ 8 larger) (neither (leb 1 p && leb p 64))
-  where
-    larger : 8 < max l.size.0 (bytes_for (o + p))
-    larger = omega arith
-
-    neither : (t : Bool) → (t && false) ≡ false
-    neither true = refl
-    neither false = refl
 
 -- ---- the layout with the field
 

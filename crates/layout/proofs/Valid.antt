@@ -1,10 +1,9 @@
 -- The test `valid` and the facts `Valid` say the same of a layout. Assumes nothing.
-use mathlib.Core.Path.{◌≡◌, refl, sym, ◌∙◌}
+use mathlib.Core.Path.{◌≡◌, refl}
 use mathlib.Core.Bool.{Bool, true, false, ◌&&◌, false≢true, and-eq-true_iff}
-use Prim.Native.Nat.{ℕ, ◌+◌, ◌-◌, ◌*◌, ◌≤◌, ◌<◌}
-use native.Mathlib.Omega.{arith}
+use Prim.Native.Nat.{ℕ, ◌+◌, ◌*◌, ◌≤◌}
 use lib.Dec.{leb}
-use borrow.Author.Tests.{leb-true, leb-false, le-leb, lt-leb}
+use borrow.Author.Tests.{leb-true, le-leb}
 use Rattle.layout.specs.declared.Layout.{Layout}
 use Rattle.layout.specs.Layout.{valid, Valid, may_sign}
 
@@ -13,18 +12,6 @@ pub between : (n most : ℕ) → (leb 1 n && leb n most) ≡ true → (1 ≤ n) 
 between n most h =
     let t = (and-eq-true_iff (leb 1 n) (leb n most)).0 h in
     (leb-true 1 n t.0, leb-true n most t.1)
-
--- a place compared with what is left beside it
-pub moved : (o p w : ℕ) → p ≤ w → leb o (w - p) ≡ leb (o + p) w
-moved o p w h = go (leb (o + p) w) refl
-  where
-    go : (t : Bool) → leb (o + p) w ≡ t → leb o (w - p) ≡ leb (o + p) w
-    go true e =
-        let le : o + p ≤ w = leb-true _ _ e in
-        rw (e, le-leb o (w - p) (omega arith))
-    go false e =
-        let lt : w < o + p = leb-false _ _ e in
-        rw (e, lt-leb o (w - p) (omega arith))
 
 -- six tests that all passed
 each : (a b c d e f : Bool) → (a && b && c && d && e && f) ≡ true → (a ≡ true) × (b ≡ true) × (c ≡ true) × (d ≡ true) × (e ≡ true) × (f ≡ true)
@@ -52,7 +39,3 @@ facts l h =
 pub tested : (l : Layout) → Valid l → valid l ≡ true
 tested l v =
     rw (le-leb _ _ v.some_bytes, le-leb _ _ v.sized, le-leb _ _ v.some, le-leb _ _ v.most, le-leb _ _ v.inside, v.sign)
-
--- what a caller of `is_valid` learns where it says true
-pub told : {l : Layout} {r : Bool} → r ≡ valid l → r ≡ true → Valid l
-told {l} e h = facts l (sym e ∙ h)

@@ -1,5 +1,5 @@
 -- Document 01, "Layout sheets": the layouts of int and bits types, and which of them are valid.
-use Rattle.std.specs.Prelude.{◌≡◌, Bool, true, false, not, ◌&&◌, ℕ, ◌+◌, ◌*◌, ◌≤◌, leb}
+use Rattle.std.specs.Prelude.{◌≡◌, Bool, true, not, ◌&&◌, ◌+◌, ◌*◌, ◌≤◌, leb}
 use Rattle.layout.specs.declared.Class.{Class}
 use Rattle.layout.specs.declared.Class.TheVariants.{Int, Bits}
 use Rattle.layout.specs.declared.Layout.{Layout}

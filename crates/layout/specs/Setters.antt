@@ -7,7 +7,7 @@ use Rattle.layout.specs.declared.Class.TheVariants.{Int, Bits}
 use Rattle.layout.specs.declared.Pad.{Pad}
 use Rattle.layout.specs.declared.Layout.{Layout}
 use Rattle.layout.specs.declared.Edited.{Edited}
-use Rattle.layout.specs.Layout.{valid, may_sign}
+use Rattle.layout.specs.Layout.{valid}
 
 -- "9 RANGE: setter's argument or result outside its rule, or the given layout already breaks it."
 -- "A setter that refuses returns the layout it was given." So: where l is valid and its argument is allowed, the layout m; else RANGE and l.

@@ -7,7 +7,7 @@ ghost use Rattle.layout.specs.Layout.{may_sign, valid};
 use answer::Answer;
 use bits::{BitAt, ByteAt, Order, bits_of};
 
-#[derive(Clone, Copy)]
+#[derive(Clone, Copy, PartialEq, Eq)]
 pub enum Class {
     Int,
     Bits,
@@ -44,19 +44,13 @@ pub struct Edited {
 pub fn size_allowed(size: ByteAt) -> bool
     ensures { result ≡ (leb 1 size.0 && leb size.0 8) }
 {
-    if size.0 < 1 {
-        return false;
-    }
-    size.0 <= 8
+    (1..=8).contains(&size.0)
 }
 
 pub fn precision_allowed(precision: u32) -> bool
     ensures { result ≡ (leb 1 precision && leb precision 64) }
 {
-    if precision < 1 {
-        return false;
-    }
-    precision <= 64
+    (1..=64).contains(&precision)
 }
 
 // Whether precision bits from offset on lie within size bytes. The precision is tested first, so that no difference wraps.
@@ -65,10 +59,7 @@ fn fits(offset: BitAt, precision: u32, size: ByteAt) -> bool
     ensures { result ≡ leb (offset.0 + precision) (8 * size.0) }
 {
     let whole = bits_of(size);
-    if whole.0 < precision {
-        return false;
-    }
-    offset.0 <= whole.0 - precision
+    precision <= whole.0 && offset.0 <= whole.0 - precision
 }
 
 // A bits number is unsigned.
@@ -85,15 +76,8 @@ fn may_sign(class: Class, signed: bool) -> bool
 pub fn is_valid(l: Layout) -> bool
     ensures { result ≡ valid l }
 {
-    if !size_allowed(l.size) {
-        return false;
-    }
-    if !precision_allowed(l.precision) {
-        return false;
-    }
-    if !fits(l.offset, l.precision, l.size) {
-        return false;
-    }
-    let class = l.class;
-    may_sign(class, l.signed)
+    size_allowed(l.size)
+        && precision_allowed(l.precision)
+        && fits(l.offset, l.precision, l.size)
+        && may_sign(l.class, l.signed)
 }

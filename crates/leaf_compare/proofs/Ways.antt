@@ -19,8 +19,7 @@ use Rattle.datatype.specs.Datatype.{leaf_size, same}
 use Rattle.datatype.specs.Datatype.Leaf.{atomic, enumeration, real}
 use Rattle.datatype.specs.Symbols.{same_number}
 use Rattle.datatype.specs.WellFormed.{WellFormedLeaf}
-use Rattle.table.specs.declared.Found.{Found}
-use Rattle.table.specs.declared.Found.TheVariants.{At, Missing}
+use Rattle.std.specs.Prelude.{Option, Some, None}
 use Rattle.table.specs.Table.{class_word, first_word, rows_word, row_word, layout_at, bytes_at, name_at, symbols_at}
 use Rattle.table.specs.Words.{Reads}
 use Rattle.table.specs.Rows.{row_numbered, name_found}
@@ -30,7 +29,7 @@ use Rattle.plans.specs.declared.PlanEntry.{PlanEntry}
 use Rattle.plans.specs.PlanWords.{leaf_of_type, symbol_rows, is_real}
 use Rattle.plans.proofs.LeafSteps.{leaf_layout, leaf_symbols, leaf_enum, leaf_valid}
 use Rattle.differences.specs.Same.{same_named, same_symbol, same_in}
-use Rattle.comparing.specs.declared.Compared.TheVariants.{Same, Differ}
+use Rattle.std.specs.Prelude.{Some, None}
 use Rattle.comparing.specs.Comparing.{EntrySays}
 use Rattle.leaf_compare.specs.Ways.{unless_found, same_worth}
 
@@ -81,7 +80,7 @@ module _ (z w : Number) {s t : Bool} {r : Bool} where
 
 -- ---- symbols
 
-pub row_of : (w : List ℕ) (k : ℕ) (z : Number) (p : Parts) {first rows : ℕ} {f : Found} → meaning z ≡ signed_by p.negative p.distance → Reads (first_word w k) first
+pub row_of : (w : List ℕ) (k : ℕ) (z : Number) (p : Parts) {first rows : ℕ} {f : Option ℕ} → meaning z ≡ signed_by p.negative p.distance → Reads (first_word w k) first
     → (rows ≡ symbol_rows w k) × (rows < 4294967296) → f ≡ row_numbered w (signed_by p.negative p.distance) first rows → f ≡ row_numbered w (meaning z) (first_word w k) (symbol_rows w k)
 row_of w k z p e rf rr h = h ∙ rw (e, rf.is, rr.0) refl
 
@@ -89,18 +88,18 @@ pub names_read : (ws ts wd td : List ℕ) (i j : ℕ) {start len : ℕ} {r : Boo
     → r ≡ same (bytes_at ts start len) (name_at wd td j) → r ≡ same (name_at ws ts i) (name_at wd td j)
 names_read ws ts wd td i j rs rl h = h ∙ rw (rs.is, rl.is) refl
 
-module _ (ws ts wd td : List ℕ) (f g : Found) (numbers : Bool) where
-  pub first_missing : {r : Bool} → f ≡ Missing → r ≡ unless_found g numbers → r ≡ same_named (name_found ws ts f) (name_found wd td g) numbers
+module _ (ws ts wd td : List ℕ) (f g : Option ℕ) (numbers : Bool) where
+  pub first_missing : {r : Bool} → f ≡ None → r ≡ unless_found g numbers → r ≡ same_named (name_found ws ts f) (name_found wd td g) numbers
   first_missing e h = h ∙ rw e (go g)
     where
-      go : (g : Found) → unless_found g numbers ≡ same_named (name_found ws ts Missing) (name_found wd td g) numbers
-      go (At j) = refl
-      go Missing = refl
+      go : (g : Option ℕ) → unless_found g numbers ≡ same_named (name_found ws ts None) (name_found wd td g) numbers
+      go (Some j) = refl
+      go None = refl
 
-  pub second_missing : {i : ℕ} → f ≡ At i → g ≡ Missing → false ≡ same_named (name_found ws ts f) (name_found wd td g) numbers
+  pub second_missing : {i : ℕ} → f ≡ Some i → g ≡ None → false ≡ same_named (name_found ws ts f) (name_found wd td g) numbers
   second_missing e h = rw (e, h) refl
 
-  pub both_found : {i j : ℕ} {r : Bool} → f ≡ At i → g ≡ At j → r ≡ same (name_at ws ts i) (name_at wd td j) → r ≡ same_named (name_found ws ts f) (name_found wd td g) numbers
+  pub both_found : {i j : ℕ} {r : Bool} → f ≡ Some i → g ≡ Some j → r ≡ same (name_at ws ts i) (name_at wd td j) → r ≡ same_named (name_found ws ts f) (name_found wd td g) numbers
   both_found e h q = rw (e, h) q
 
 -- no class is that of an enum and of a real
@@ -111,7 +110,7 @@ both c e f =
     omega arith
 
 module _ (ws ts wd td : List ℕ) (s d : ℕ) (z w : Number) where
-  pub by_symbols : {f g : Found} {numbers r : Bool} → f ≡ row_numbered ws (meaning z) (first_word ws s) (symbol_rows ws s)
+  pub by_symbols : {f g : Option ℕ} {numbers r : Bool} → f ≡ row_numbered ws (meaning z) (first_word ws s) (symbol_rows ws s)
       → g ≡ row_numbered wd (meaning w) (first_word wd d) (symbol_rows wd d) → numbers ≡ same_number (meaning z) (meaning w)
       → r ≡ same_named (name_found ws ts f) (name_found wd td g) numbers → r ≡ same_symbol (symbols (leaf_of_type ws ts s)) (symbols (leaf_of_type wd td d)) (meaning z) (meaning w)
   by_symbols e h i q =
@@ -172,8 +171,8 @@ module _ (e : PlanEntry) (ss ws ds wd p q : List ℕ) (z w : Number) (ez : meani
       → same_in (leaf_of_type ws ss e.source) (leaf_of_type wd ds e.destination) (number_in (leaf_of_type ws ss e.source) e.from p) (number_in (leaf_of_type wd ds e.destination) e.to q) ≡ t
   decided t i = rw (← first_number, ← second_number_lem) (sym is ∙ i)
 
-  pub says_same : b ≡ true → EntrySays e ss ws ds wd p q Same
+  pub says_same : b ≡ true → EntrySays e ss ws ds wd p q None
   says_same i = decided true i
 
-  pub says_differ : b ≡ false → EntrySays e ss ws ds wd p q (Differ z w)
+  pub says_differ : b ≡ false → EntrySays e ss ws ds wd p q (Some (record { first = z; second = w }))
   says_differ i = (decided false i, first_number, second_number_lem)

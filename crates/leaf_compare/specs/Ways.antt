@@ -1,15 +1,13 @@
 -- The ways in which the numbers of two leaves are compared, by what was looked up of them. No meaning of document 02 stands here: that is in crate differences.
-use Rattle.std.specs.Prelude.{Bool, true, false, ℤ}
+use Rattle.std.specs.Prelude.{Option, Some, None, Bool, true, false, ℕ, ℤ}
 use Rattle.reals.specs.Compare.{equals}
 use Rattle.datatype.specs.Symbols.{same_number}
 use Rattle.records.specs.Leaf.{real_bits}
-use Rattle.table.specs.declared.Found.{Found}
-use Rattle.table.specs.declared.Found.TheVariants.{At, Missing}
 
 -- against a number without a symbol
-abbrev pub unless_found : Found → Bool → Bool
-unless_found (At j) numbers = false
-unless_found Missing numbers = numbers
+abbrev pub unless_found : Option ℕ → Bool → Bool
+unless_found (Some j) numbers = false
+unless_found None numbers = numbers
 
 -- by whether the first and the second leaf are reals
 abbrev pub same_worth : Bool → Bool → ℤ → ℤ → Bool

@@ -16,7 +16,7 @@ ghost use Rattle.comparing.specs.Comparing.{EntryFormed, EntrySays};
 ghost use Rattle.leaf_compare.specs.Ways.{unless_found, same_worth};
 
 use bits::ByteAt;
-use comparing::Compared;
+use comparing::Differing;
 use name_compare::has_name;
 use number::Number;
 use number::sign::{number_of, split};
@@ -26,7 +26,7 @@ use real_equals::equals_number;
 use row_codes::symbol_rows;
 use row_lookup::row_numbered;
 use table::read::{layout_at, row_word, type_word};
-use table::{CLASS, ENUM, FIRST, Found, NAME, NAME_LENGTH, REAL};
+use table::{CLASS, ENUM, FIRST, NAME, NAME_LENGTH, REAL};
 
 // The number in the leaf of a type at a byte of a record.
 fn number_at(bytes: &[u8], at: usize, half: &[u32], type_number: usize) -> Number
@@ -90,7 +90,7 @@ fn same_worth(z: Number, z_real: bool, w: Number, w_real: bool) -> bool
 }
 
 // The row of a type's symbol for the number z.
-fn symbol_row(half: &[u32], type_number: usize, z: Number) -> Found
+fn symbol_row(half: &[u32], type_number: usize, z: Number) -> Option<usize>
     ensures { result ≡ row_numbered half.now (meaning z) (first_word half.now type_number) (symbol_rows half.now type_number) }
 {
     let first = type_word(half, type_number, FIRST);
@@ -100,12 +100,12 @@ fn symbol_row(half: &[u32], type_number: usize, z: Number) -> Found
 }
 
 // Where no row was found the numbers count.
-fn unless_found(other: Found, numbers: bool) -> bool
+fn unless_found(other: Option<usize>, numbers: bool) -> bool
     ensures { result ≡ unless_found other numbers }
 {
     match other {
-        Found::At(_) => false,
-        Found::Missing => numbers,
+        Some(_) => false,
+        None => numbers,
     }
 }
 
@@ -129,18 +129,18 @@ fn same_names(
 fn same_rows(
     first_sheet: &[u8],
     first_half: &[u32],
-    row: Found,
+    row: Option<usize>,
     second_sheet: &[u8],
     second_half: &[u32],
-    other: Found,
+    other: Option<usize>,
     numbers: bool,
 ) -> bool
     ensures { result ≡ same_named (name_found first_half.now first_sheet.now row) (name_found second_half.now second_sheet.now other) numbers }
 {
-    let Found::At(i) = row else {
+    let Some(i) = row else {
         return unless_found(other, numbers);
     };
-    let Found::At(j) = other else {
+    let Some(j) = other else {
         return false;
     };
     same_names(first_sheet, first_half, i, second_sheet, second_half, j)
@@ -199,7 +199,7 @@ fn same_leaf(
     same_worth(z, z_real, w, w_real)
 }
 
-// The numbers of an entry's leaves in a record of the first log and one of the second.
+// The numbers of an entry's leaves in a record of the first log and one of the second, where they differ.
 pub fn compare_leaf(
     e: PlanEntry,
     first: &[u8],
@@ -208,14 +208,17 @@ pub fn compare_leaf(
     second_sheet: &[u8],
     first_half: &[u32],
     second_half: &[u32],
-) -> Compared
+) -> Option<Differing>
     requires { EntryFormed (length first.now) (length second.now) e first_sheet.now first_half.now second_sheet.now second_half.now }
     ensures { EntrySays e first_sheet.now first_half.now second_sheet.now second_half.now first.now second.now result }
 {
     let z = number_at(first, e.from, first_half, e.source);
     let w = number_at(second, e.to, second_half, e.destination);
     if same_leaf(e, z, w, first_sheet, second_sheet, first_half, second_half) {
-        return Compared::Same;
+        return None;
     }
-    Compared::Differ(z, w)
+    Some(Differing {
+        first: z,
+        second: w,
+    })
 }

@@ -11,8 +11,7 @@ use lib.Seq.{paste}
 use Rattle.datatype.specs.Datatype.{Datatype}
 use Rattle.datatype.specs.Datatype.Leaf.{atomic, enumeration, real}
 use Rattle.datatype.specs.Leaves.{leaf_at}
-use Rattle.table.specs.declared.Found.{Found}
-use Rattle.table.specs.declared.Found.TheVariants.{At, Missing}
+use Rattle.std.specs.Prelude.{Option, Some, None}
 use Rattle.table.specs.Table.{class_word, size_word, first_word, rows_word, layout_at, symbols_at, type_at}
 use Rattle.table.specs.Words.{Reads}
 use Rattle.paths.specs.Leaf.{leaf_of_type, leaf_found}
@@ -43,11 +42,11 @@ leaf_columns w t b k = go (eqb (class_word w k) 2) (eqb (class_word w k) 5) (eqb
 -- ---- the line at a byte
 
 -- o is the leaf that starts at byte b of type i
-abbrev pub Starts : List ℕ → ℕ → ℕ → Found → Type 0
+abbrev pub Starts : List ℕ → ℕ → ℕ → Option ℕ → Type 0
 Starts w i b o = (t : List ℕ) → leaf_found w t o ≡ leaf_at (type_at w t i) b
 
-module _ (w : List ℕ) (i b : ℕ) {o : Found} (starts : Starts w i b o) where
-  module _ (e : o ≡ Missing) (t : List ℕ) where
+module _ (w : List ℕ) (i b : ℕ) {o : Option ℕ} (starts : Starts w i b o) where
+  module _ (e : o ≡ None) (t : List ℕ) where
     no_line : line_at (type_at w t i) b ≡ []
     unfolding line_at
     no_line = rw (← (starts t), e)
@@ -58,7 +57,7 @@ module _ (w : List ℕ) (i b : ℕ) {o : Found} (starts : Starts w i b o) where
     pub no_write : (d : List ℕ) (at : ℕ) → Wrote d at (line_at (type_at w t i) b) d at
     no_write d at = rw no_line (wrote_none d at)
 
-  module _ {k z c : ℕ} (e : o ≡ At k) (sized : Reads (size_word w k) z) (classed : Reads (class_word w k) c) (t : List ℕ) where
+  module _ {k z c : ℕ} (e : o ≡ Some k) (sized : Reads (size_word w k) z) (classed : Reads (class_word w k) c) (t : List ℕ) where
     pub the_line : line_at (type_at w t i) b ≡ columns b z c
     unfolding line_at
     the_line = rw (← (starts t), e, sized.is, classed.is) (leaf_columns w t b k)
@@ -69,7 +68,7 @@ module _ (w : List ℕ) (i b : ℕ) {o : Found} (starts : Starts w i b o) where
     pub the_write : {d f : List ℕ} {at n : ℕ} → Wrote d at (columns b z c) f n → Wrote d at (line_at (type_at w t i) b) f n
     the_write h = rw the_line h
 
-pub line_fits : (w : List ℕ) (i b : ℕ) {o : Found} {k z c : ℕ} (at n : ℕ) → Starts w i b o → o ≡ At k → Reads (size_word w k) z → Reads (class_word w k) c
+pub line_fits : (w : List ℕ) (i b : ℕ) {o : Option ℕ} {k z c : ℕ} (at n : ℕ) → Starts w i b o → o ≡ Some k → Reads (size_word w k) z → Reads (class_word w k) c
     → ((t : List ℕ) → at + length (line_at (type_at w t i) b) ≤ n) → at + length (columns b z c) ≤ n
 line_fits w i b at n starts e sized classed room = rw (the_line w i b starts e sized classed []) at (room [])
 

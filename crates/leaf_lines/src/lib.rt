@@ -10,7 +10,7 @@ ghost use Rattle.leaf_lines.specs.LeafList.{header, line_at, leaf_lines};
 use leaf_columns::{line_len, put_line};
 use paths::leaf::leaf_at;
 use table::read::type_word;
-use table::{CLASS, Found, SIZE};
+use table::{CLASS, SIZE};
 use text_writing::put_bytes;
 
 // The length of the line at this byte of a type, 0 where no leaf starts.
@@ -18,7 +18,7 @@ fn leaf_len(half: &[u32], type_number: usize, byte: usize) -> usize
     requires { byte ≤ 4096 }
     ensures { (t : List ℕ) → Length (line_at (type_at half.now t type_number) byte) result }
 {
-    let Found::At(k) = leaf_at(half, type_number, byte) else {
+    let Some(k) = leaf_at(half, type_number, byte) else {
         return 0;
     };
     let size = type_word(half, k, SIZE);
@@ -32,10 +32,8 @@ pub fn lines_len(half: &[u32], type_number: usize, size: usize) -> usize
     ensures { ((t : List ℕ) → result ≡ length (leaf_lines (type_at half.now t type_number) 0 size)) × (result ≤ 47 * 4096) }
 {
     let mut n: usize = 0;
-    let mut b: usize = 0;
-    while b < size {
+    for b in 0..size {
         n += leaf_len(half, type_number, b);
-        b += 1;
     }
     n
 }
@@ -45,7 +43,7 @@ fn put_leaf(list: &mut [u8], at: usize, half: &[u32], type_number: usize, byte: 
     requires { (byte ≤ 4096) × ((t : List ℕ) → at + length (line_at (type_at half.now t type_number) byte) ≤ length list.old) }
     ensures { (t : List ℕ) → Wrote list.old at (line_at (type_at half.now t type_number) byte) list.new result }
 {
-    let Found::At(k) = leaf_at(half, type_number, byte) else {
+    let Some(k) = leaf_at(half, type_number, byte) else {
         return at;
     };
     let size = type_word(half, k, SIZE);
@@ -59,10 +57,8 @@ fn put_lines(list: &mut [u8], start: usize, half: &[u32], type_number: usize, si
     ensures { (t : List ℕ) → list.new ≡ written list.old start (leaf_lines (type_at half.now t type_number) 0 size) }
 {
     let mut at = start;
-    let mut byte: usize = 0;
-    while byte < size {
+    for byte in 0..size {
         at = put_leaf(list, at, half, type_number, byte);
-        byte += 1;
     }
 }
 

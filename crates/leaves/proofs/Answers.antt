@@ -1,4 +1,5 @@
 -- Answers, the list and the table after a call. Assumes nothing.
+use Rattle.std.specs.Prelude.{Result, Ok, Err}
 use mathlib.Core.Path.{◌≡◌, refl, sym, ap, ◌∙◌}
 use mathlib.Core.Bool.{Bool, true, false, cond}
 use mathlib.Core.List.{List, ◌++◌}
@@ -15,8 +16,8 @@ use Rattle.datatype.proofs.Matches.{size_most}
 use Rattle.table.specs.Table.{size_word, decode, type_at}
 use Rattle.table.specs.Words.{Reads}
 use Rattle.table.proofs.Made.{node_size}
-use Rattle.sheet_steps.specs.declared.SheetRead.{SheetRead}
-use Rattle.sheet_steps.specs.declared.SheetRead.TheVariants.{Types, Faulty}
+use Rattle.sheet_steps.specs.declared.Counts.{Counts}
+use Rattle.sheet_steps.specs.declared.FaultyLine.{FaultyLine}
 use Rattle.sheet.specs.Sheet.{Sheet, sheet_of}
 use Rattle.sheet.specs.Sheet.Sheet.{of_type, faulty_at}
 use Rattle.sheet_steps.specs.Read.{ReadsSheet}
@@ -61,22 +62,22 @@ module _ (w t : List ℕ) (i : ℕ) {z n : ℕ} (sized : Reads (size_word w i) z
 
 -- ---- a sheet
 
-module _ (t w : List ℕ) {r : SheetRead} (read : ReadsSheet t w r) where
-  module _ {n m : ℕ} (e : r ≡ Types n m) where
-    types : ReadsSheet t w (Types n m)
+module _ (t w : List ℕ) {r : Result Counts FaultyLine} (read : ReadsSheet t w r) where
+  module _ {c : Counts} (e : r ≡ Ok c) where
+    types : ReadsSheet t w (Ok c)
     types = rw e at read
 
-    pub type_some : 1 ≤ n
+    pub type_some : 1 ≤ c.types
     type_some = types.stands.some
 
-    pub type_small : size_word w (n - 1) ≤ 4096
-    type_small = rw (size_decode 64 w t (n - 1)) at (size_most (type_at w t (n - 1)) (type_formed t w n m types))
+    pub type_small : size_word w (c.types - 1) ≤ 4096
+    type_small = rw (size_decode 64 w t (c.types - 1)) at (size_most (type_at w t (c.types - 1)) (type_formed t w c types))
 
-    pub sheet_lists : {d f : List ℕ} {a : Answer} → ((u : List ℕ) → Lists (of_type (type_at w u (n - 1))) d f a) → Lists (sheet_of t) d f a
-    sheet_lists h = rw (sheet_type t w n m types) (h t)
+    pub sheet_lists : {d f : List ℕ} {a : Answer} → ((u : List ℕ) → Lists (of_type (type_at w u (c.types - 1))) d f a) → Lists (sheet_of t) d f a
+    sheet_lists h = rw (sheet_type t w c types) (h t)
 
-  pub fault_lists : {k : ℕ} → r ≡ Faulty k → (d : List ℕ) → Lists (sheet_of t) d d (Source k)
-  fault_lists {k} e d = rw (sheet_fault t w k (rw e at read)) record { answer = refl; list = refl }
+  pub fault_lists : {f : FaultyLine} → r ≡ Err f → (d : List ℕ) → Lists (sheet_of t) d d (Source f.0)
+  fault_lists {f} e d = rw (sheet_fault t w f (rw e at read)) record { answer = refl; list = refl }
 
 pub ruleset sheet_laws = (rules, type_some, type_small, sheet_lists, fault_lists)
 

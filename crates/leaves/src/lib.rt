@@ -11,7 +11,7 @@ ghost use Rattle.leaves.specs.Call.{answer_of, list_after, Lists};
 use answer::Answer;
 use leaf_lines::{lines_len, put_list};
 use reading::read_sheet;
-use sheet_steps::SheetRead;
+use sheet_steps::FaultyLine;
 use table::read::type_word;
 use table::store::clear;
 use table::{HALF, SIZE, TABLE};
@@ -39,8 +39,8 @@ fn list_sheet(sheet: &[u8], list: &mut [u8], half: &mut [u32]) -> Answer
     ensures { Lists (sheet_of sheet.now) list.old list.new result }
 {
     match read_sheet(sheet, half) {
-        SheetRead::Types(n, _) => list_type(list, half, (n - 1) as usize),
-        SheetRead::Faulty(k) => Answer::Source(k),
+        Ok(counts) => list_type(list, half, (counts.types - 1) as usize),
+        Err(FaultyLine(k)) => Answer::Source(k),
     }
 }
 

@@ -5,6 +5,8 @@ use mathlib.Core.Path.{◌≡◌, refl, sym, ap, ap₂, ◌∙◌}
 use mathlib.Core.Bool.{Bool, true, false, ◌&&◌}
 use mathlib.Core.List.{List, [], ◌∷◌, ◌++◌, append-nil}
 use mathlib.Core.Option.{Option, none, some}
+use Rattle.std.specs.Prelude.{Some, None}
+use Rattle.std.specs.Prelude as std
 use Prim.Native.Nat.{ℕ, zero, suc, ◌+◌, ◌-◌, ◌<◌, ◌≤◌}
 use native.Mathlib.Numerals.{add-one}
 use native.Mathlib.Omega.{arith}
@@ -15,20 +17,16 @@ use Rattle.datatype.specs.Datatype.{up_to_zero}
 use Rattle.text.specs.Field.{◌>>=◌, number}
 use Rattle.text.specs.Place.{field_at, field_end, tab_at, newline_at, fields_after}
 use Rattle.text.specs.declared.Field.{Field}
-use Rattle.text.specs.declared.Field.TheVariants as field
 use Rattle.line.specs.Line as said
 use Rattle.line.specs.Line.{Fields, column, numbers, array_line_of}
 use Rattle.line.specs.Line.Line.{array_line}
-use Rattle.line.specs.Column.{Found, column_at, next_at, on_found, found_number}
-use Rattle.line.specs.Column.Found.{found, missing}
-use Rattle.line.specs.Read.{readable, each_positive, Reading, reading_to, rest_end, columns_reading, array_read, Reads}
+use Rattle.line.specs.Column.{column_at, next_at, on_found}
+use Rattle.line.specs.Read.{readable, each_positive, Reading, reading_to, rest_end, columns_reading, Reads}
 use Rattle.line.specs.Read.Reading.{reads, faulty}
-use Rattle.line.specs.declared.Next.{Next}
-use Rattle.line.specs.declared.Next.TheVariants as next
-use Rattle.line.specs.declared.ReadLine.{ReadLine}
-use Rattle.line.proofs.Answers.{on_number, on_number_fault}
+use Rattle.line.specs.declared.Line.TheVariants.{Array}
+use Rattle.line.proofs.Answers.{on_found_lem, on_missing}
 use Rattle.line.proofs.Readings.{reading_none, next_at_lem, no_next, no_tab, fields_none, fields_some, column_reading, column_is}
-use Rattle.line.proofs.FirstWords.{reads_fault}
+use Rattle.line.proofs.FirstWords.{reads_none}
 
 -- ---- lists of dimensions
 
@@ -144,80 +142,77 @@ module _ (s : List ℕ) (base n : ℕ) (dims : List ℕ) (at : ℕ) (g : Reading
   pub dims_over : 4 ≤ n → faulty ≡ g
   unfolding on_found
   dims_over h = go (column_at number s at) ∙ next_turn where
-    go : (f : Found ℕ) → faulty ≡ on_found f (λ d e. columns_reading s e (array_rest base (take n dims ++ (d ∷ [])))) faulty
-    go missing = refl
-    go (found d e) =
-        sym (refused s e base (take n dims ++ (d ∷ [])) (λ ns. too_many base ((take n dims ++ (d ∷ [])) ++ ns) (omega (arith, longer d ns))))
+    go : (f : std.Option (Field ℕ)) → faulty ≡ on_found f (λ d e. columns_reading s e (array_rest base (take n dims ++ (d ∷ [])))) faulty
+    go None = refl
+    go (Some f) =
+        sym (refused s f.end base (take n dims ++ (f.value ∷ [])) (λ ns. too_many base ((take n dims ++ (f.value ∷ [])) ++ ns) (omega (arith, longer f.value ns))))
 
-  module _ (f : Field) (is : found_number f ≡ column_at number s at) where
-    pub dims_fault : f ≡ field.Fault → faulty ≡ g
-    dims_fault h = on_number_fault _ _ f _ _ is h refl ∙ next_turn
+  pub dims_fault : None ≡ column_at number s at → faulty ≡ g
+  dims_fault h = on_missing _ _ _ _ h refl ∙ next_turn
 
-    module _ (d e : ℕ) (h : f ≡ field.Number d e) where
-      turn : columns_reading s e (array_rest base (take n dims ++ (d ∷ []))) ≡ g
-      turn = on_number _ _ f _ _ is d e h refl ∙ next_turn
+  module _ (f : Field ℕ) (is : Some f ≡ column_at number s at) where
+    turn : columns_reading s f.end (array_rest base (take n dims ++ (f.value ∷ []))) ≡ g
+    turn = on_found_lem _ _ _ _ f is refl ∙ next_turn
 
-      pub dims_zero : d ≡ 0 → faulty ≡ g
-      dims_zero z = sym (refused s e base (take n dims ++ (d ∷ [])) (λ ns. rw z (with_zero base (take n dims) ns))) ∙ turn
+    pub dims_zero : f.value ≡ 0 → faulty ≡ g
+    dims_zero z = sym (refused s f.end base (take n dims ++ (f.value ∷ [])) (λ ns. rw z (with_zero base (take n dims) ns))) ∙ turn
 
-      module _ (l : n < 4) (p : (d ≡ 0) → ⊥) where
-        taken : take (n + 1) (set dims n d) ≡ take n dims ++ (d ∷ [])
-        taken = rw (add-one n) (take-suc-set dims n d (omega (arith, inv.long)))
+    module _ (l : n < 4) (p : (f.value ≡ 0) → ⊥) where
+      taken : take (n + 1) (set dims n f.value) ≡ take n dims ++ (f.value ∷ [])
+      taken = rw (add-one n) (take-suc-set dims n f.value (omega (arith, inv.long)))
 
-        left : drop (n + 1) (set dims n d) ≡ replicate (4 - (n + 1)) 0
-        left =
-            let k : 4 - n ≡ suc (4 - (n + 1)) = omega arith in
-            let c : drop n dims ≡ get_or dims n 0 ∷ drop (n + 1) dims = rw (add-one n) (drop-cons dims n 0 (omega (arith, inv.long))) in
-            let r : drop n dims ≡ replicate (suc (4 - (n + 1))) 0 = inv.rest ∙ ap (λ (m : ℕ). replicate m 0) k in
-            drop-set-lt (n + 1) dims n d (omega arith) ∙ cc
+      left : drop (n + 1) (set dims n f.value) ≡ replicate (4 - (n + 1)) 0
+      left =
+          let k : 4 - n ≡ suc (4 - (n + 1)) = omega arith in
+          let c : drop n dims ≡ get_or dims n 0 ∷ drop (n + 1) dims = rw (add-one n) (drop-cons dims n 0 (omega (arith, inv.long))) in
+          let r : drop n dims ≡ replicate (suc (4 - (n + 1))) 0 = inv.rest ∙ ap (λ (m : ℕ). replicate m 0) k in
+          drop-set-lt (n + 1) dims n f.value (omega arith) ∙ cc
 
-        all_positive : each_positive (take n dims ++ (d ∷ [])) ≡ true
-        all_positive = positive_more (take n dims) d inv.positive (omega arith)
+      all_positive : each_positive (take n dims ++ (f.value ∷ [])) ≡ true
+      all_positive = positive_more (take n dims) f.value inv.positive (omega arith)
 
-        all_taken : up_to_zero (set dims n d) ≡ take n dims ++ (d ∷ [])
-        all_taken =
-            ap up_to_zero (sym (take-append-drop (n + 1) (set dims n d)))
-            ∙ ap up_to_zero (ap₂ (λ (a b : List ℕ). a ++ b) taken left)
-            ∙ up_to_zero_lem (take n dims ++ (d ∷ [])) (4 - (n + 1)) all_positive
+      all_taken : up_to_zero (set dims n f.value) ≡ take n dims ++ (f.value ∷ [])
+      all_taken =
+          ap up_to_zero (sym (take-append-drop (n + 1) (set dims n f.value)))
+          ∙ ap up_to_zero (ap₂ (λ (a b : List ℕ). a ++ b) taken left)
+          ∙ up_to_zero_lem (take n dims ++ (f.value ∷ [])) (4 - (n + 1)) all_positive
 
-        module _ (x : Next) (ends : x ≡ next_at s e) where
-          pub dims_last : (m : ℕ) → x ≡ next.At m → reads (array_line base (up_to_zero (set dims n d))) m ≡ g
-          dims_last m b =
-              let q = next_at_lem s e m (sym ends ∙ b) in
-              let c : length (take n dims ++ (d ∷ [])) ≡ n + 1 = length-append (take n dims) (d ∷ []) ∙ ap (λ (k : ℕ). k + 1) so_far in
-              let r : readable (array_line base (take n dims ++ (d ∷ []))) ≡ true = good base (take n dims ++ (d ∷ [])) (omega arith) (omega arith) all_positive in
-              rw (all_taken, q.1) (sym (ended s e base (take n dims ++ (d ∷ [])) q.0 r) ∙ turn)
+      pub dims_last : (m : ℕ) → Some m ≡ next_at s f.end → reads (array_line base (up_to_zero (set dims n f.value))) m ≡ g
+      dims_last m b =
+          let q = next_at_lem s f.end m b in
+          let c : length (take n dims ++ (f.value ∷ [])) ≡ n + 1 = length-append (take n dims) (f.value ∷ []) ∙ ap (λ (k : ℕ). k + 1) so_far in
+          let r : readable (array_line base (take n dims ++ (f.value ∷ []))) ≡ true = good base (take n dims ++ (f.value ∷ [])) (omega arith) (omega arith) all_positive in
+          rw (all_taken, q.1) (sym (ended s f.end base (take n dims ++ (f.value ∷ [])) q.0 r) ∙ turn)
 
-          pub dims_more : x ≡ next.Fault → Dims s base (n + 1) (set dims n d) e g
-          dims_more b = record {
-            few = omega arith;
-            long = length-set dims n d ∙ inv.long;
-            rest = left;
-            positive = ap each_positive taken ∙ all_positive;
-            onward = simp (lt-ltb 0 (n + 1) (omega arith), no_next s e (sym ends ∙ b));
-            goes = ap (λ (l : List ℕ). columns_reading s e (array_rest base l)) taken ∙ turn;
-          }
+      pub dims_more : None ≡ next_at s f.end → Dims s base (n + 1) (set dims n f.value) f.end g
+      dims_more b = record {
+        few = omega arith;
+        long = length-set dims n f.value ∙ inv.long;
+        rest = left;
+        positive = ap each_positive taken ∙ all_positive;
+        onward = simp (lt-ltb 0 (n + 1) (omega arith), no_next s f.end b);
+        goes = ap (λ (l : List ℕ). columns_reading s f.end (array_rest base l)) taken ∙ turn;
+      }
 
 -- ---- the first turn, and the end
 
-pub dims_start : (s : List ℕ) (q : ℕ) (f : Field) (base at : ℕ) → found_number f ≡ column_at number s q → f ≡ field.Number base at
-    → Dims s base 0 (0 ∷ 0 ∷ 0 ∷ 0 ∷ []) at (columns_reading s q array_line_of)
+pub dims_start : (s : List ℕ) (q : ℕ) (f : Field ℕ) → Some f ≡ column_at number s q → Dims s f.value 0 (0 ∷ 0 ∷ 0 ∷ 0 ∷ []) f.end (columns_reading s q array_line_of)
 unfolding array_line_of array_rest
-dims_start s q f base at is h = record {
+dims_start s q f is = record {
   few = omega arith;
   long = refl;
   rest = refl;
   positive = refl;
   onward = refl;
-  goes = column_is s q number (λ base fs. numbers fs >>= λ ds. some (array_line base ds)) _ (on_number _ _ f _ _ is base at h refl);
+  goes = column_is s q number (λ base fs. numbers fs >>= λ ds. some (array_line base ds)) _ (on_found_lem _ _ _ _ f is refl);
 }
 
-pub array_fault : (s : List ℕ) (q : ℕ) (f : Field) → found_number f ≡ column_at number s q → f ≡ field.Fault → faulty ≡ columns_reading s q array_line_of
+pub array_fault : (s : List ℕ) (q : ℕ) → None ≡ column_at number s q → faulty ≡ columns_reading s q array_line_of
 unfolding array_line_of
-array_fault s q f is h = column_is s q number (λ base fs. numbers fs >>= λ ds. some (array_line base ds)) _ (on_number_fault _ _ f _ _ is h refl)
+array_fault s q is = column_is s q number (λ base fs. numbers fs >>= λ ds. some (array_line base ds)) _ (on_missing _ _ _ _ is refl)
 
-pub array_reads : (s : List ℕ) (r : ReadLine) (x : Reading) (base n : ℕ) (dims : List ℕ)
-    → r ≡ array_read base dims n → reads (array_line base (up_to_zero dims)) n ≡ x → Reads s r x
-array_reads s r x base n dims e h = rw e (record { tells = h; within = refl })
+pub array_reads : (s : List ℕ) (x : Reading) (base n : ℕ) (dims : List ℕ)
+    → reads (array_line base (up_to_zero dims)) n ≡ x → Reads s (Some (record { line = Array base n; dims = dims })) x
+array_reads s x base n dims h = record { tells = h; within = refl }
 
-pub ruleset array_laws = (rules, dims_start, dims_over, dims_fault, dims_zero, dims_last, dims_more, array_fault, array_reads, reads_fault)
+pub ruleset array_laws = (rules, dims_start, dims_over, dims_fault, dims_zero, dims_last, dims_more, array_fault, array_reads, reads_none)

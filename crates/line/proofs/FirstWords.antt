@@ -4,6 +4,8 @@ use mathlib.Core.Path.{◌≡◌, refl, sym, ap, ◌∙◌}
 use mathlib.Core.Bool.{Bool, true, false, cond}
 use mathlib.Core.List.{List}
 use mathlib.Core.Option.{Option, none, some}
+use Rattle.std.specs.Prelude.{None, option_map}
+use Rattle.std.specs.Prelude as std
 use Prim.Native.Nat.{ℕ}
 use Rattle.text.specs.Field.{◌>>=◌}
 use Rattle.text.specs.Place.{field_at, field_end, line_end, fields_after, same_bytes}
@@ -13,7 +15,6 @@ use Rattle.line.specs.Line.{Fields, column, line_kind, line_of}
 use Rattle.line.specs.Read.{Reading, reading_to, columns_reading, kind_reading, line_reading, plain_line, Reads}
 use Rattle.line.specs.Read.Reading.{faulty}
 use Rattle.line.specs.declared.Line.{Line}
-use Rattle.line.specs.declared.Line.TheVariants.{Fault}
 use Rattle.line.specs.declared.ReadLine.{ReadLine}
 use Rattle.line.proofs.Readings.{line_end_lem, reading_none}
 
@@ -48,14 +49,14 @@ module _ (s : List ℕ) (q : ℕ) (x : Reading) where
 
 -- ---- an answer
 
-module _ (s : List ℕ) (r : ReadLine) (x : Reading) where
-  pub reads_same : (y : Reading) → Reads s r y → y ≡ x → Reads s r x
-  reads_same y h e = record { tells = h.tells ∙ e; within = h.within }
+module _ (s : List ℕ) (x : Reading) where
+  pub reads_same : (r : std.Option ReadLine) (y : Reading) → Reads s r y → y ≡ x → Reads s r x
+  reads_same r y h e = record { tells = h.tells ∙ e; within = h.within }
 
-  pub reads_plain : (l : Line) (y : Reading) → r ≡ plain_line l → Reads s (plain_line l) y → y ≡ x → Reads s r x
-  reads_plain l y e h g = rw e (record { tells = h.tells ∙ g; within = h.within })
+  pub reads_plain : (r : std.Option ReadLine) (l : std.Option Line) (y : Reading) → r ≡ option_map plain_line l → Reads s (option_map plain_line l) y → y ≡ x → Reads s r x
+  reads_plain r l y e h g = rw e (record { tells = h.tells ∙ g; within = h.within })
 
-  pub reads_fault : r ≡ plain_line Fault → faulty ≡ x → Reads s r x
-  reads_fault e h = rw e (record { tells = h; within = refl })
+  pub reads_none : (r : std.Option ReadLine) → r ≡ None → faulty ≡ x → Reads s r x
+  reads_none r e h = rw e (record { tells = h; within = refl })
 
-pub ruleset kind_laws = (rules, line_is, kind_is, kind_not, no_kind, reads_same, reads_plain, reads_fault)
+pub ruleset kind_laws = (rules, line_is, kind_is, kind_not, no_kind, reads_same, reads_plain, reads_none)

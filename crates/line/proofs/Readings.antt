@@ -4,6 +4,8 @@ use mathlib.Core.Path.{◌≡◌, refl, sym, ap, ◌∙◌}
 use mathlib.Core.Bool.{Bool, true, false, cond, ◌&&◌}
 use mathlib.Core.List.{List, [], ◌∷◌}
 use mathlib.Core.Option.{Option, none, some}
+use Rattle.std.specs.Prelude.{Some, None, option_map}
+use Rattle.std.specs.Prelude as std
 use Prim.Native.Nat.{ℕ, ◌+◌, ◌-◌, ◌<◌, ◌≤◌, min}
 use native.Mathlib.Omega.{arith}
 use lib.Dec.{leb}
@@ -16,27 +18,18 @@ use Rattle.layout.specs.declared.Pad.{Pad}
 use Rattle.layout.specs.declared.Layout.{Layout}
 use Rattle.number.specs.Parts.{signed_by}
 use Rattle.text.specs.declared.Whole.{Whole}
-use Rattle.text.specs.declared.Whole.TheVariants as whole
+use Rattle.text.specs.declared.Field.{Field}
 use Rattle.text.specs.Field.{when, ◌>>=◌, number, enum_number, each_printable, name}
-use Rattle.text.specs.Place.{field_at, field_end, line_end, tab_at, newline_at, fields_after}
+use Rattle.text.specs.Place.{field_at, field_end, line_end, tab_at, newline_at, fields_after, as_field}
 use Rattle.text.proofs.Places.{field_length, fields_at, line_end_last, line_end_tab}
 use Rattle.line.specs.Line as said
 use Rattle.line.specs.Line.{Fields, column, optional, ends, order, pad, sign, layout, layout_columns, int_line, bits_line, value_line_of}
 use Rattle.line.specs.Line.Line.{atomic_line, value_line}
-use Rattle.line.specs.Column.{Found, given, column_at, optional_at, on_found, next_at, holdable, whole_number, found_whole, found_name, place_at, pads_at, on_place, on_pads, layout_at, on_layout, signed_as}
-use Rattle.line.specs.Column.Found.{found, missing}
-use Rattle.line.specs.Read.{readable, Reading, reading_to, rest_end, columns_reading, name_within, names_within, reading, Reads}
+use Rattle.line.specs.Column.{column_at, optional_at, on_found, next_at, holdable, whole_number, found_whole, found_name, layout_at, signed_as}
+use Rattle.line.specs.Read.{readable, Reading, reading_to, rest_end, columns_reading, name_within, names_within, reading, plain_line, Reads}
 use Rattle.line.specs.Read.Reading.{reads, faulty}
-use Rattle.line.specs.declared.Next.{Next}
-use Rattle.line.specs.declared.Next.TheVariants as next
-use Rattle.line.specs.declared.NameColumn.{NameColumn}
-use Rattle.line.specs.declared.NameColumn.TheVariants as name_column
-use Rattle.line.specs.declared.PlaceColumns.{PlaceColumns}
-use Rattle.line.specs.declared.PlaceColumns.TheVariants as place_columns
-use Rattle.line.specs.declared.PadColumns.{PadColumns}
-use Rattle.line.specs.declared.PadColumns.TheVariants as pad_columns
-use Rattle.line.specs.declared.LayoutColumns.{LayoutColumns}
-use Rattle.line.specs.declared.LayoutColumns.TheVariants as layout_columns
+use Rattle.line.specs.declared.Line.{Line}
+use Rattle.line.specs.declared.Name.{Name}
 use Rattle.line.specs.declared.ReadLine.{ReadLine}
 use Rattle.line.proofs.Columns.{byte_inside}
 use Rattle.line.proofs.Answers as a
@@ -44,17 +37,17 @@ use Rattle.line.proofs.Answers as a
 -- ---- where a line ends
 
 module _ (s : List ℕ) (q : ℕ) where
-  pub next_at_lem : (n : ℕ) → next_at s q ≡ next.At n → (newline_at s q ≡ true) × (n ≡ q + 1)
+  pub next_at_lem : (n : ℕ) → Some n ≡ next_at s q → (newline_at s q ≡ true) × (n ≡ q + 1)
   unfolding next_at
   next_at_lem n h = go (newline_at s q) h where
-    go : (t : Bool) → cond t (next.At (q + 1)) next.Fault ≡ next.At n → (t ≡ true) × (n ≡ q + 1)
+    go : (t : Bool) → Some n ≡ cond t (Some (q + 1)) None → (t ≡ true) × (n ≡ q + 1)
     go true g = (refl, cc)
     go false g = let z : ◌≡◌ {A = ℕ} 0 1 = cc in absurd (omega arith)
 
-  pub no_next : next_at s q ≡ next.Fault → newline_at s q ≡ false
+  pub no_next : None ≡ next_at s q → newline_at s q ≡ false
   unfolding next_at
   no_next h = go (newline_at s q) h where
-    go : (t : Bool) → cond t (next.At (q + 1)) next.Fault ≡ next.Fault → t ≡ false
+    go : (t : Bool) → None ≡ cond t (Some (q + 1)) None → t ≡ false
     go true g = let z : ◌≡◌ {A = ℕ} 0 1 = cc in absurd (omega arith)
     go false g = refl
 
@@ -87,7 +80,7 @@ module _ (s : List ℕ) (q : ℕ) where
   module _ {A : Type 0} (read : List ℕ → Option A) (rest : A → Fields → Option said.Line) where
     column_given : (o : Option A)
         → reading_to s (line_end s (q + 1)) (o >>= λ v. rest v (fields_after s (field_end s (q + 1))))
-        ≡ on_found (given o (field_end s (q + 1))) (λ v n. columns_reading s n (rest v)) faulty
+        ≡ on_found (as_field o (field_end s (q + 1))) (λ v n. columns_reading s n (rest v)) faulty
     unfolding on_found columns_reading
     column_given none = sym (reading_none s (line_end s (q + 1)))
     column_given (some v) = ap (λ (e : ℕ). reading_to s e (rest v (fields_after s (field_end s (q + 1))))) (line_end_lem s (q + 1))
@@ -109,9 +102,9 @@ module _ (s : List ℕ) (q : ℕ) where
         → columns_reading s q (column read rest) ≡ F (on_found (column_at read s q) k bad)
     unfolding on_found
     column_into F bad k e h = column_reading ∙ go (column_at read s q) where
-      go : (g : Found A) → on_found g (λ v n. columns_reading s n (rest v)) faulty ≡ F (on_found g k bad)
-      go (found v n) = h v n
-      go missing = sym e
+      go : (g : std.Option (Field A)) → on_found g (λ v n. columns_reading s n (rest v)) faulty ≡ F (on_found g k bad)
+      go (Some f) = h f.value f.end
+      go None = sym e
 
   -- ---- a column that the line may have
 
@@ -140,45 +133,38 @@ module _ (s : List ℕ) (q : ℕ) where
         let n : tab_at s q ≡ false = no_tab s q b in
         rw (fields_none n) (simp (n, b, r))
 
-    module _ (f : Next) (is : f ≡ next_at s q) (x : Reading) where
-      pub line_ends : (n : ℕ) → f ≡ next.At n → readable l ≡ true → x ≡ reads l n → x ≡ columns_reading s q (ends l)
+    module _ (x : Reading) where
+      pub line_ends : (n : ℕ) → Some n ≡ next_at s q → readable l ≡ true → x ≡ reads l n → x ≡ columns_reading s q (ends l)
       line_ends n e r h =
-          let p = next_at_lem s q n (sym is ∙ e) in
+          let p = next_at_lem s q n e in
           h ∙ ap (reads l) p.1 ∙ line_done p.0 r
 
-      pub line_not_ended : f ≡ next.Fault → x ≡ faulty → x ≡ columns_reading s q (ends l)
-      line_not_ended e h = h ∙ line_goes_on (tab_at s q) refl (no_next s q (sym is ∙ e))
+      pub line_not_ended : None ≡ next_at s q → x ≡ faulty → x ≡ columns_reading s q (ends l)
+      line_not_ended e h = h ∙ line_goes_on (tab_at s q) refl (no_next s q e)
 
 -- ---- an int and a bits
 
 module _ (s : List ℕ) (q : ℕ) (class : Class) (rest : (Bool → Layout) → Fields → Option said.Line) (K : Layout → ℕ → Reading) where
-  from_pads : ℕ → Order → ℕ → ℕ → PadColumns → LayoutColumns
-  from_pads z o at p c = on_pads c (λ lsb msb n. layout_columns.Holds (layout class z o at p lsb msb false) n) layout_columns.Fault
-
-  from_place : PlaceColumns → LayoutColumns
-  from_place c = on_place c (λ z o at p a. from_pads z o at p (pads_at s a)) layout_columns.Fault
-
   layout_reading : ((z : ℕ) (o : Order) (at p : ℕ) (lsb msb : Pad) (n : ℕ)
       → columns_reading s n (rest (layout class z o at p lsb msb)) ≡ K (layout class z o at p lsb msb false) n)
-      → columns_reading s q (layout_columns class rest) ≡ on_layout (layout_at class s q) K faulty
-  unfolding from_pads from_place layout_columns layout_at place_at pads_at on_place on_pads on_layout
+      → columns_reading s q (layout_columns class rest) ≡ on_found (layout_at class s q) K faulty
+  unfolding layout_columns layout_at on_found
   layout_reading h =
-      let F : PlaceColumns → Reading = λ c. on_layout (from_place c) K faulty in
-      let P : ℕ → Order → ℕ → ℕ → PadColumns → Reading = λ z o at p c. on_layout (from_pads z o at p c) K faulty in
-      column_into s q number _ F place_columns.Fault _ refl
-      (λ z a. column_into s a order _ F place_columns.Fault _ refl
-      (λ o b. column_into s b number _ F place_columns.Fault _ refl
-      (λ at c. column_into s c number _ F place_columns.Fault _ refl
-      (λ p d. column_into s d pad _ (P z o at p) pad_columns.Fault _ refl
-      (λ lsb e. column_into s e pad _ (P z o at p) pad_columns.Fault _ refl
+      let F : std.Option (Field Layout) → Reading = λ c. on_found c K faulty in
+      column_into s q number _ F None _ refl
+      (λ z a. column_into s a order _ F None _ refl
+      (λ o b. column_into s b number _ F None _ refl
+      (λ at c. column_into s c number _ F None _ refl
+      (λ p d. column_into s d pad _ F None _ refl
+      (λ lsb e. column_into s e pad _ F None _ refl
       (λ msb n. h z o at p lsb msb n))))))
 
 module _ (s : List ℕ) (q : ℕ) (x : Reading) where
-  pub int_is : x ≡ on_layout (layout_at Int s q) (λ l n. columns_reading s n (column sign λ b. ends (atomic_line (signed_as l b)))) faulty → x ≡ columns_reading s q int_line
+  pub int_is : x ≡ on_found (layout_at Int s q) (λ l n. columns_reading s n (column sign λ b. ends (atomic_line (signed_as l b)))) faulty → x ≡ columns_reading s q int_line
   unfolding int_line
   int_is h = h ∙ sym (layout_reading s q Int _ _ (λ z o at p lsb msb n. refl))
 
-  pub bits_is : x ≡ on_layout (layout_at Bits s q) (λ l n. columns_reading s n (ends (atomic_line l))) faulty → x ≡ columns_reading s q bits_line
+  pub bits_is : x ≡ on_found (layout_at Bits s q) (λ l n. columns_reading s n (ends (atomic_line l))) faulty → x ≡ columns_reading s q bits_line
   unfolding bits_line
   bits_is h = h ∙ sym (layout_reading s q Bits _ _ (λ z o at p lsb msb n. refl))
 
@@ -219,19 +205,21 @@ value_is s q r h = h ∙ sym (value_line_lem s (rest_end s q) (fields_after s q)
 
 -- ---- what a column that was found holds
 
-given_found : {A : Type 0} (o : Option A) (e n : ℕ) (v : A) → given o e ≡ found v n → (o ≡ some v) × (e ≡ n)
-given_found none e n v h = let z : ◌≡◌ {A = ℕ} 0 1 = cc in absurd (omega arith)
-given_found (some a) e n v h = (cc, cc)
+given_found : {A : Type 0} (o : Option A) (e : ℕ) (f : Field A) → Some f ≡ as_field o e → (o ≡ some f.value) × (e ≡ f.end)
+given_found none e f h = let z : ◌≡◌ {A = ℕ} 0 1 = cc in absurd (omega arith)
+given_found {A} (some a) e f h =
+    let z : f ≡ record { value = a; end = e } = cc in
+    (ap (λ (x : Field A). some x.value) (sym z), ap (λ (x : Field A). x.end) (sym z))
 
-module _ {A : Type 0} (read : List ℕ → Option A) (s : List ℕ) (q n : ℕ) (v : A) where
-  found_here : (t : Bool) → tab_at s q ≡ t → cond t (given (read (field_at s (q + 1))) (field_end s (q + 1))) missing ≡ found v n
-      → (q < length s) × (read (field_at s (q + 1)) ≡ some v) × (field_end s (q + 1) ≡ n)
+module _ {A : Type 0} (read : List ℕ → Option A) (s : List ℕ) (q : ℕ) (f : Field A) where
+  found_here : (t : Bool) → tab_at s q ≡ t → Some f ≡ cond t (as_field (read (field_at s (q + 1))) (field_end s (q + 1))) None
+      → (q < length s) × (read (field_at s (q + 1)) ≡ some f.value) × (field_end s (q + 1) ≡ f.end)
   found_here true e h =
-      let g = given_found (read (field_at s (q + 1))) (field_end s (q + 1)) n v h in
+      let g = given_found (read (field_at s (q + 1))) (field_end s (q + 1)) f h in
       (byte_inside s q 9 (omega arith) e, g.0, g.1)
   found_here false e h = let z : ◌≡◌ {A = ℕ} 0 1 = cc in absurd (omega arith)
 
-  column_found : column_at read s q ≡ found v n → (q < length s) × (read (field_at s (q + 1)) ≡ some v) × (field_end s (q + 1) ≡ n)
+  column_found : Some f ≡ column_at read s q → (q < length s) × (read (field_at s (q + 1)) ≡ some f.value) × (field_end s (q + 1) ≡ f.end)
   unfolding column_at
   column_found h = found_here (tab_at s q) refl h
 
@@ -242,11 +230,12 @@ held (some y) z h = go (holdable y) refl h where
   go true e g = let p : y ≡ z = cc in ap holdable (sym p) ∙ e
   go false e g = let p : ◌≡◌ {A = ℕ} 0 1 = cc in absurd (omega arith)
 
-pub value_readable : (s : List ℕ) (q : ℕ) (w : Whole) (x : List ℕ) (b : Bool) (d n : ℕ) → found_whole w ≡ column_at whole_number s q → w ≡ whole.Number b d n
-    → readable (value_line x (signed_by b d)) ≡ true
+pub value_readable : (s : List ℕ) (q : ℕ) (x : List ℕ) (f : Field Whole) → found_whole (Some f) ≡ column_at whole_number s q
+    → readable (value_line x (signed_by f.value.negative f.value.distance)) ≡ true
 unfolding whole_number
-value_readable s q w x b d n is e =
-    held (enum_number (field_at s (q + 1))) (signed_by b d) (column_found whole_number s q n (signed_by b d) (sym is ∙ ap found_whole e)).1
+value_readable s q x f is =
+    held (enum_number (field_at s (q + 1))) (signed_by f.value.negative f.value.distance)
+    (column_found whole_number s q (record { value = signed_by f.value.negative f.value.distance; end = f.end }) is).1
 
 -- ---- where a name lies
 
@@ -257,12 +246,14 @@ name_length f x true true false e g h = let z : ◌≡◌ {A = ℕ} 0 1 = cc in 
 name_length f x true false v e g h = let z : ◌≡◌ {A = ℕ} 0 1 = cc in absurd (omega arith)
 name_length f x false u v e g h = let z : ◌≡◌ {A = ℕ} 0 1 = cc in absurd (omega arith)
 
-pub name_within_lem : (s : List ℕ) (q : ℕ) (f : NameColumn) (a e : ℕ) → found_name s f ≡ column_at name s q → f ≡ name_column.Holds a e → name_within s a e ≡ true
+pub name_within_lem : (s : List ℕ) (q : ℕ) (f : Name) → found_name s (Some f) ≡ column_at name s q → name_within s f.start f.end ≡ true
 unfolding name_within name
-name_within_lem s q f a e is h =
+name_within_lem s q f is =
+    let a = f.start in
+    let e = f.end in
     let x = take (e - a) (drop a s) in
     let l = field_at s (q + 1) in
-    let c = column_found name s q e x (sym is ∙ ap (found_name s) h) in
+    let c = column_found name s q (record { value = x; end = e }) is in
     let n = name_length l x (leb 1 (length l)) (leb (length l) 31) (each_printable l) refl refl c.1 in
     let m : length l ≡ min (e - a) (length s - a) = ap length n.0 ∙ length-take (e - a) (drop a s) ∙ ap (min (e - a)) (length-drop a s) in
     let b = field_length s (q + 1) in
@@ -273,11 +264,14 @@ name_within_lem s q f a e is h =
 
 -- ---- an answer
 
-module _ (s : List ℕ) (r : ReadLine) (x : Reading) where
-  pub reads_by : reading s r ≡ x → names_within s r.line ≡ true → Reads s r x
+module _ (s : List ℕ) (r : std.Option ReadLine) (x : Reading) where
+  pub reads_by : reading s r ≡ x → names_within s r ≡ true → Reads s r x
   reads_by h n = record { tells = h; within = n }
+
+pub reads_nothing : (s : List ℕ) (l : std.Option Line) (x : Reading) → l ≡ None → faulty ≡ x → Reads s (option_map plain_line l) x
+reads_nothing s l x e h = rw e (record { tells = h; within = refl })
 
 pub atomic_reads : (l m : Layout) (n : ℕ) → l ≡ m → reads (atomic_line l) n ≡ reads (atomic_line m) n
 atomic_reads l m n e = rw e
 
-pub ruleset line_laws = (a.on_laws, a.on_layout_lem, a.on_layout_fault, a.on_sign, a.on_sign_fault, a.on_name, a.on_name_fault, a.on_whole, a.on_whole_fault, a.on_word, a.on_word_fault, column_is, optional_is, line_ends, line_not_ended, int_is, bits_is, value_is, value_readable, name_within_lem, reads_by, atomic_reads)
+pub ruleset line_laws = (a.on_laws, column_is, optional_is, line_ends, line_not_ended, int_is, bits_is, value_is, value_readable, name_within_lem, reads_by, reads_nothing, atomic_reads)

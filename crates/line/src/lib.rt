@@ -2,11 +2,11 @@
 #![tactic(auto)]
 
 ghost use Rattle.line.specs.Read.{plain_line};
-ghost use Rattle.std.specs.Prelude.{◌≡◌};
+ghost use Rattle.std.specs.Prelude.{◌≡◌, option_map};
 
 use bits::Order;
 use datatype::Word;
-use layout::{Layout, Pad};
+use layout::Layout;
 
 // What a line says, and the place behind it. A value's number is its sign and its distance from 0, or from -1 where it is negative.
 #[derive(Clone, Copy)]
@@ -25,7 +25,6 @@ pub enum Line {
     Array(u32, usize),
     // The size and the order.
     Real(u32, Order, usize),
-    Fault,
 }
 
 // A line, and the dimensions of an array: 0 for none.
@@ -35,69 +34,17 @@ pub struct ReadLine {
     pub dims: [u32; 4],
 }
 
-// What a column holds, and where it ends. Of a name also where it starts.
+// Where a name lies.
 #[derive(Clone, Copy)]
-pub enum NameColumn {
-    Holds(usize, usize),
-    Fault,
-}
-
-#[derive(Clone, Copy)]
-pub enum OrderColumn {
-    Holds(Order, usize),
-    Fault,
-}
-
-#[derive(Clone, Copy)]
-pub enum PadColumn {
-    Holds(Pad, usize),
-    Fault,
-}
-
-#[derive(Clone, Copy)]
-pub enum SignColumn {
-    Holds(bool, usize),
-    Fault,
-}
-
-// A member's word: where the line has no such column, it is silent, and the place is where the field before it ended.
-#[derive(Clone, Copy)]
-pub enum WordColumn {
-    Holds(Word, usize),
-    Fault,
-}
-
-// Where the next line starts.
-#[derive(Clone, Copy)]
-pub enum Next {
-    At(usize),
-    Fault,
-}
-
-// Size, order, offset and precision.
-#[derive(Clone, Copy)]
-pub enum PlaceColumns {
-    Holds(u32, Order, u32, u32, usize),
-    Fault,
-}
-
-// Lsb and msb.
-#[derive(Clone, Copy)]
-pub enum PadColumns {
-    Holds(Pad, Pad, usize),
-    Fault,
-}
-
-// All six, as an unsigned layout.
-#[derive(Clone, Copy)]
-pub enum LayoutColumns {
-    Holds(Layout, usize),
-    Fault,
+pub struct Name {
+    pub start: usize,
+    pub end: usize,
 }
 
 // A line that has no dimensions.
-pub fn plain(line: Line) -> ReadLine
-    ensures { result ≡ plain_line line }
+pub fn plain(line: Option<Line>) -> Option<ReadLine>
+    ensures { result ≡ option_map plain_line line }
 {
-    ReadLine { line, dims: [0; 4] }
+    let line = line?;
+    Some(ReadLine { line, dims: [0; 4] })
 }

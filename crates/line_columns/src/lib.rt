@@ -5,124 +5,143 @@ ghost use Rattle.std.specs.Prelude.{◌≡◌};
 ghost use Rattle.text.specs.Field.{number, name};
 ghost use Rattle.datatype.specs.declared.Word.TheVariants.{Silent};
 ghost use Rattle.line.specs.Line.{order, pad, sign, member_word};
-ghost use Rattle.line.specs.Column.{column_at, optional_at, next_at, whole_number, found_number, found_whole, found_name, found_order, found_pad, found_sign, found_word};
+ghost use Rattle.line.specs.Column.{column_at, optional_at, next_at, whole_number, found_whole, found_name};
 
 use bits::Order;
 use datatype::Word;
 use layout::Pad;
-use line::{NameColumn, Next, OrderColumn, PadColumn, SignColumn, WordColumn};
-use text::{Field, Name, Whole, field_end, is_newline, is_tab, name_at, word_at};
+use line::Name;
+use text::{Field, Whole, field_end, is_newline, is_tab, name_at, word_at};
 use text_numbers::{number_at, whole_at};
 
 // The line ends where its last field ended: at its byte 10.
-pub fn next_line(s: &[u8], q: usize) -> Next
+pub fn next_line(s: &[u8], q: usize) -> Option<usize>
     ensures { result ≡ next_at s.now q }
 {
-    if !is_newline(s, q) {
-        return Next::Fault;
-    }
-    Next::At(q + 1)
+    if is_newline(s, q) { Some(q + 1) } else { None }
 }
 
-pub fn number_column(s: &[u8], q: usize) -> Field
-    ensures { found_number result ≡ column_at number s.now q }
+pub fn number_column(s: &[u8], q: usize) -> Option<Field<u32>>
+    ensures { result ≡ column_at number s.now q }
 {
     if !is_tab(s, q) {
-        return Field::Fault;
+        return None;
     }
     number_at(s, q + 1)
 }
 
-pub fn whole_column(s: &[u8], q: usize) -> Whole
+pub fn whole_column(s: &[u8], q: usize) -> Option<Field<Whole>>
     ensures { found_whole result ≡ column_at whole_number s.now q }
 {
     if !is_tab(s, q) {
-        return Whole::Fault;
+        return None;
     }
     whole_at(s, q + 1)
 }
 
-pub fn name_column(s: &[u8], q: usize) -> NameColumn
+pub fn name_column(s: &[u8], q: usize) -> Option<Name>
     ensures { found_name s.now result ≡ column_at name s.now q }
 {
     if !is_tab(s, q) {
-        return NameColumn::Fault;
+        return None;
     }
-    let at = q + 1;
-    let Name::Text(end) = name_at(s, at) else {
-        return NameColumn::Fault;
-    };
-    NameColumn::Holds(at, end)
+    let start = q + 1;
+    let end = name_at(s, start)?;
+    Some(Name { start, end })
 }
 
-pub fn order_column(s: &[u8], q: usize) -> OrderColumn
-    ensures { found_order result ≡ column_at order s.now q }
+pub fn order_column(s: &[u8], q: usize) -> Option<Field<Order>>
+    ensures { result ≡ column_at order s.now q }
 {
     if !is_tab(s, q) {
-        return OrderColumn::Fault;
+        return None;
     }
     let at = q + 1;
     let end = field_end(s, at);
     if word_at(s, at, b"LE") {
-        return OrderColumn::Holds(Order::LE, end);
+        return Some(Field {
+            value: Order::LE,
+            end,
+        });
     }
     if word_at(s, at, b"BE") {
-        return OrderColumn::Holds(Order::BE, end);
+        return Some(Field {
+            value: Order::BE,
+            end,
+        });
     }
-    OrderColumn::Fault
+    None
 }
 
-pub fn pad_column(s: &[u8], q: usize) -> PadColumn
-    ensures { found_pad result ≡ column_at pad s.now q }
+pub fn pad_column(s: &[u8], q: usize) -> Option<Field<Pad>>
+    ensures { result ≡ column_at pad s.now q }
 {
     if !is_tab(s, q) {
-        return PadColumn::Fault;
+        return None;
     }
     let at = q + 1;
     let end = field_end(s, at);
     if word_at(s, at, b"zero") {
-        return PadColumn::Holds(Pad::Zero, end);
+        return Some(Field {
+            value: Pad::Zero,
+            end,
+        });
     }
     if word_at(s, at, b"one") {
-        return PadColumn::Holds(Pad::One, end);
+        return Some(Field {
+            value: Pad::One,
+            end,
+        });
     }
     if word_at(s, at, b"keep") {
-        return PadColumn::Holds(Pad::Keep, end);
+        return Some(Field {
+            value: Pad::Keep,
+            end,
+        });
     }
-    PadColumn::Fault
+    None
 }
 
-pub fn sign_column(s: &[u8], q: usize) -> SignColumn
-    ensures { found_sign result ≡ column_at sign s.now q }
+pub fn sign_column(s: &[u8], q: usize) -> Option<Field<bool>>
+    ensures { result ≡ column_at sign s.now q }
 {
     if !is_tab(s, q) {
-        return SignColumn::Fault;
+        return None;
     }
     let at = q + 1;
     let end = field_end(s, at);
     if word_at(s, at, b"signed") {
-        return SignColumn::Holds(true, end);
+        return Some(Field { value: true, end });
     }
     if word_at(s, at, b"unsigned") {
-        return SignColumn::Holds(false, end);
+        return Some(Field { value: false, end });
     }
-    SignColumn::Fault
+    None
 }
 
 // A column that a member's line may have: a member without it is silent.
-pub fn word_column(s: &[u8], q: usize) -> WordColumn
-    ensures { found_word result ≡ optional_at member_word Silent s.now q }
+pub fn word_column(s: &[u8], q: usize) -> Option<Field<Word>>
+    ensures { result ≡ optional_at member_word Silent s.now q }
 {
     if !is_tab(s, q) {
-        return WordColumn::Holds(Word::Silent, q);
+        return Some(Field {
+            value: Word::Silent,
+            end: q,
+        });
     }
     let at = q + 1;
     let end = field_end(s, at);
     if word_at(s, at, b"clamp") {
-        return WordColumn::Holds(Word::Clamp, end);
+        return Some(Field {
+            value: Word::Clamp,
+            end,
+        });
     }
     if word_at(s, at, b"stop") {
-        return WordColumn::Holds(Word::Stop, end);
+        return Some(Field {
+            value: Word::Stop,
+            end,
+        });
     }
-    WordColumn::Fault
+    None
 }

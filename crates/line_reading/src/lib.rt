@@ -7,12 +7,12 @@ ghost use Rattle.line.specs.Read.{Reads, line_reading, kind_reading, later_kind}
 
 use array_lines::array_line;
 use atomic_lines::{bits_line, int_line, real_line};
-use line::{Line, ReadLine, plain};
+use line::{ReadLine, plain};
 use row_lines::{comp_line, enum_line, member_line, value_line};
 use text::{field_end, word_at};
 
 // The line at a place, of a kind that read_line leaves, where the first word ended at q.
-fn later_line(s: &[u8], at: usize, q: usize) -> ReadLine
+fn later_line(s: &[u8], at: usize, q: usize) -> Option<ReadLine>
     ensures { Reads s.now result (kind_reading s.now q (later_kind (field_at s.now at))) }
 {
     if word_at(s, at, b"value") {
@@ -27,11 +27,11 @@ fn later_line(s: &[u8], at: usize, q: usize) -> ReadLine
     if word_at(s, at, b"array") {
         return array_line(s, q);
     }
-    plain(Line::Fault)
+    None
 }
 
 // The line at a place, up to its byte 10.
-pub fn read_line(s: &[u8], at: usize) -> ReadLine
+pub fn read_line(s: &[u8], at: usize) -> Option<ReadLine>
     ensures { Reads s.now result (line_reading s.now at) }
 {
     let q = field_end(s, at);

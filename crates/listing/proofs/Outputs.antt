@@ -5,6 +5,7 @@ use Prim.Native.Nat.{ℕ, ◌≤◌}
 use native.Mathlib.Omega.{arith}
 use borrow.Author.Tests.{le-leb}
 use lib.ListN.{length, drop, length-append, length-drop}
+use Rattle.std.specs.Prelude.{Option, Some, None}
 use Rattle.answer.specs.declared.Answer.{Answer}
 use Rattle.answer.specs.declared.Answer.TheVariants.{Done, Source}
 use Rattle.answer.specs.declared.Values.{Values}
@@ -17,9 +18,7 @@ use Rattle.text.specs.Written.{written, Wrote}
 use Rattle.text.proofs.Written.{written_front}
 use Rattle.leaf_lines.specs.LeafList.{leaf_list}
 use Rattle.leaves.specs.Call.{listed, answer_of, list_after}
-use Rattle.listing.specs.declared.Output.{Output}
-use Rattle.listing.specs.declared.Output.TheVariants.{List as AList, Refused}
-use Rattle.listing.specs.Output.{refused_line, refusal, printed, output_of, kind_of}
+use Rattle.listing.specs.Output.{refused_line, refusal, printed, output_of, faulty_line}
 use Rattle.listing.proofs.Lengths.{list_most}
 
 -- ---- the front of a buffer
@@ -51,45 +50,32 @@ module _ (s d : List ℕ) (room : 49166 ≤ length d) {a : Answer} {f : List ℕ
   fault_list k e = lists ∙ ap (λ (x : Answer). if_done x (listed (sheet_of s) d) d) (fault_answer k e)
 
   module _ {number : ℕ} {v : Values} (is_number : number ≡ number_of a) (is-values : v ≡ values_of a) where
-    pub prints_list : number ≡ 0 → (AList v.count ≡ kind_of (sheet_of s)) × (f ≡ written d 0 (output_of s))
+    -- what is put says how long it is, which line is faulty, and what stands in the buffer
+    abbrev pub Prints : ℕ → Option ℕ → List ℕ → Type 0
+    Prints n line g = (n ≡ length (output_of s)) × (line ≡ faulty_line (sheet_of s)) × (g ≡ written d 0 (output_of s))
+
+    pub prints_list : number ≡ 0 → Prints v.count None f
     unfolding output_of
     prints_list z = go (sheet_of s) refl
       where
-        go : (x : Sheet) → sheet_of s ≡ x → (AList v.count ≡ kind_of x) × (f ≡ written d 0 (printed x))
-        go (of_type T) e = (ap (λ (w : Values). AList w.count) (is-values ∙ ap values_of (answered ∙ type_answer T e)), type_list T e)
+        go : (x : Sheet) → sheet_of s ≡ x → (v.count ≡ length (printed x)) × (None ≡ faulty_line x) × (f ≡ written d 0 (printed x))
+        go (of_type T) e = (ap (λ (w : Values). w.count) (is-values ∙ ap values_of (answered ∙ type_answer T e)), refl, type_list T e)
         go (faulty_at k) e = let three : number ≡ 3 = is_number ∙ ap number_of (answered ∙ fault_answer k e) in absurd (omega arith)
 
-    pub prints_refusal : {g : List ℕ} {n : ℕ} → (number ≡ 0 → ⊥) → Wrote f 0 (refused_line number v.line) g n
-        → (Refused n v.line ≡ kind_of (sheet_of s)) × (g ≡ written d 0 (output_of s))
+    pub prints_refusal : {g : List ℕ} {n : ℕ} → (number ≡ 0 → ⊥) → Wrote f 0 (refused_line number v.line) g n → Prints n (Some v.line) g
     unfolding output_of
     prints_refusal {g} {n} z w = go (sheet_of s) refl
       where
-        go : (x : Sheet) → sheet_of s ≡ x → (Refused n v.line ≡ kind_of x) × (g ≡ written d 0 (printed x))
+        go : (x : Sheet) → sheet_of s ≡ x → (n ≡ length (printed x)) × (Some v.line ≡ faulty_line x) × (g ≡ written d 0 (printed x))
         go (of_type T) e = absurd (z (is_number ∙ ap number_of (answered ∙ type_answer T e)))
         go (faulty_at k) e =
             let source : a ≡ Source k = answered ∙ fault_answer k e in
             let line : refused_line number v.line ≡ refusal (Source k) =
             ap₂ refused_line (is_number ∙ ap number_of source) (ap (λ (u : Values). u.line) (is-values ∙ ap values_of source)) in
             let end : n ≡ length (refusal (Source k)) = w.ends ∙ omega (arith, ap length line) in
-            (ap₂ Refused end (ap (λ (u : Values). u.line) (is-values ∙ ap values_of source)), w.is ∙ ap₂ (λ (l r : List ℕ). written l 0 r) (fault_list k e) line)
+            (end, ap (λ (u : Values). Some u.line) (is-values ∙ ap values_of source), w.is ∙ ap₂ (λ (l r : List ℕ). written l 0 r) (fault_list k e) line)
 
 -- ---- what is printed lies in the buffer
 
-pub list_length : (x : Sheet) (n : ℕ) → kind_of x ≡ AList n → n ≡ length (printed x)
-list_length (of_type T) n e = cc
-list_length (faulty_at k) n e = let z : ◌≡◌ {A = ℕ} 0 1 = cc in absurd (omega arith)
-
-pub refusal_length : (x : Sheet) (n k : ℕ) → kind_of x ≡ Refused n k → n ≡ length (printed x)
-refusal_length (of_type T) n k e = let z : ◌≡◌ {A = ℕ} 0 1 = cc in absurd (omega arith)
-refusal_length (faulty_at j) n k e = cc
-
-module _ (s d : List ℕ) {e : List ℕ} {r : Output} (same : length e ≡ length d) (prints : (r ≡ kind_of (sheet_of s)) × (e ≡ written d 0 (output_of s))) where
-  printed_inside : length (printed (sheet_of s)) ≤ length e
-  unfolding output_of
-  printed_inside = omega (arith, inside d (printed (sheet_of s)) (ap length (sym prints.1) ∙ same))
-
-  pub list_inside : {n : ℕ} → r ≡ AList n → n ≤ length e
-  list_inside {n} h = omega (arith, list_length (sheet_of s) n (sym prints.0 ∙ h), printed_inside)
-
-  pub refusal_inside : {n k : ℕ} → r ≡ Refused n k → n ≤ length e
-  refusal_inside {n} {k} h = omega (arith, refusal_length (sheet_of s) n k (sym prints.0 ∙ h), printed_inside)
+pub output_inside : (s d : List ℕ) {e : List ℕ} {n : ℕ} → length e ≡ length d → n ≡ length (output_of s) → e ≡ written d 0 (output_of s) → n ≤ length e
+output_inside s d same long bytes = omega (arith, long, inside d (output_of s) (ap length (sym bytes) ∙ same))

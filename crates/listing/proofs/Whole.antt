@@ -7,17 +7,13 @@ use lib.ListN.{length-append, drop}
 use lib.Seq.{take-append-le, take_all}
 use Rattle.std.specs.declared.option.Option.{Option}
 use Rattle.std.specs.Io.KnownBytes.{Appends, Consumes, IsAtEnd}
-use Rattle.std.proofs.KnownBytes.{Appends-nil}
 use Rattle.answer.specs.declared.Answer.TheVariants.{Source}
 use Rattle.sheet.specs.Sheet.{Sheet, sheet_of, outcome_of}
 use Rattle.sheet.specs.Sheet.Sheet.{of_type, faulty_at}
 use Rattle.text.specs.Written.{written}
 use Rattle.text.proofs.Written.{written_front}
-use Rattle.listing.specs.declared.Output.{Output}
-use Rattle.listing.specs.declared.Output.TheVariants.{List as AList, Refused}
-use Rattle.listing.specs.Output.{refusal, printed, output_of, kind_of}
+use Rattle.listing.specs.Output.{refusal, printed, output_of, faulty_line}
 use Rattle.listing.specs.Note.{note_of, note_beside, said_of}
-use Rattle.listing.proofs.Outputs.{list_length, refusal_length}
 
 -- ---- a text that is too long
 
@@ -58,33 +54,27 @@ pub front : (d r : List ℕ) {buffer : List ℕ} {n : ℕ} → buffer ≡ writte
 front d r {buffer} e h =
     ap (λ (m : ℕ). take m buffer) h ∙ ap (take (length r)) (e ∙ written_front d r) ∙ take-append-le (length r) r (drop (length r) d) (omega arith) ∙ take_all (length r) r (omega arith)
 
-module _ (s d : List ℕ) {e : List ℕ} {r : Output} (kind : r ≡ kind_of (sheet_of s)) (bytes : e ≡ written d 0 (output_of s)) where
-  pub list_printed : {n : ℕ} → r ≡ AList n → take n e ≡ output_of s
-  unfolding output_of
-  list_printed {n} h = front d (printed (sheet_of s)) bytes (list_length (sheet_of s) n (sym kind ∙ h))
-
-  pub refusal_printed : {n k : ℕ} → r ≡ Refused n k → take n e ≡ output_of s
-  unfolding output_of
-  refusal_printed {n} {k} h = front d (printed (sheet_of s)) bytes (refusal_length (sheet_of s) n k (sym kind ∙ h))
+pub output_printed : (s d : List ℕ) {e : List ℕ} {n : ℕ} → n ≡ length (output_of s) → e ≡ written d 0 (output_of s) → take n e ≡ output_of s
+output_printed s d long bytes = front d (output_of s) bytes long
 
 -- ---- what is said beside it
 
-list_beside : (s : List ℕ) (x : Sheet) (n : ℕ) → kind_of x ≡ AList n → note_beside s x ≡ []
-list_beside s (of_type T) n e = refl
-list_beside s (faulty_at k) n e = let z : ◌≡◌ {A = ℕ} 0 1 = cc in absurd (omega arith)
+none_beside : (s : List ℕ) (x : Sheet) → None ≡ faulty_line x → note_beside s x ≡ []
+none_beside s (of_type T) e = refl
+none_beside s (faulty_at k) e = let z : ⊥ = cc in absurd z
 
-refusal_beside : (s : List ℕ) (x : Sheet) (n k : ℕ) → kind_of x ≡ Refused n k → note_beside s x ≡ note_of s k
-refusal_beside s (of_type T) n k e = let z : ◌≡◌ {A = ℕ} 0 1 = cc in absurd (omega arith)
-refusal_beside s (faulty_at j) n k e = let same : j ≡ k = cc in ap (note_of s) same
+fault_beside : (s : List ℕ) (x : Sheet) (k : ℕ) → Some k ≡ faulty_line x → note_beside s x ≡ note_of s k
+fault_beside s (of_type T) k e = let z : ⊥ = cc in absurd z
+fault_beside s (faulty_at j) k e = let same : j ≡ k = cc in ap (note_of s) same
 
-module _ (s : List ℕ) {r : Output} (kind : r ≡ kind_of (sheet_of s)) where
-  pub list_said : {n : ℕ} → r ≡ AList n → said_of s ≡ []
+module _ (s : List ℕ) {r : Option ℕ} (faulty : r ≡ faulty_line (sheet_of s)) where
+  pub nothing_said : r ≡ None → said_of s ≡ []
   unfolding said_of
-  list_said {n} h = list_beside s (sheet_of s) n (sym kind ∙ h)
+  nothing_said h = none_beside s (sheet_of s) (sym h ∙ faulty)
 
-  pub refusal_said : {n k : ℕ} → r ≡ Refused n k → said_of s ≡ note_of s k
+  pub fault_said : {k : ℕ} → r ≡ Some k → said_of s ≡ note_of s k
   unfolding said_of
-  refusal_said {n} {k} h = refusal_beside s (sheet_of s) n k (sym kind ∙ h)
+  fault_said {k} h = fault_beside s (sheet_of s) k (sym h ∙ faulty)
 
 -- ---- results
 
@@ -95,7 +85,3 @@ on_ok (Err e) f p = tt
 pub known_ok : {T E : Type 0} (r : Result T E) {P : Type 0} → P → OnOk r P
 known_ok (Ok x) p = p
 known_ok (Err e) p = tt
-
-pub none_said : {T E : Type 0} (r : Result T E) (c : Option (List ℕ)) (bs : List ℕ) → bs ≡ [] → OnOk r (Appends c c bs)
-none_said (Ok x) c bs e = subst (Appends c c) (sym e) (Appends-nil c)
-none_said (Err x) c bs e = tt

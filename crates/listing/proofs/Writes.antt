@@ -54,10 +54,10 @@ module _ (d₀ d : List ℕ) (at : ℕ) (w : List ℕ) (k : ℕ) (inv : d ≡ pa
   shown_next x room h e =
       rw (inv, e, add-one, ← (get_or-map shown w k 0)) (paste-suc d₀ at (map shown w) k (shown 0) (omega arith) (omega (arith, length-map w shown)))
 
-  pub shown_done : at + length w ≤ length d₀ → k ≡ length w → Wrote d₀ at (map shown w) d (at + k)
+  pub shown_done : at + length w ≤ length d₀ → k ≡ length w → Wrote d₀ at (map shown w) d (at + length w)
   shown_done room e =
       let z : k ≡ length (map shown w) = e ∙ sym (length-map w shown) in
-      wrote d₀ at (omega (arith, length-map w shown)) (ap (λ (n : ℕ). at + n) z, inv ∙ ap (paste d₀ at (map shown w)) z)
+      wrote d₀ at (omega (arith, length-map w shown)) (ap (λ (n : ℕ). at + n) (sym (length-map w shown)), inv ∙ ap (paste d₀ at (map shown w)) z)
 
 -- ---- a line's end
 

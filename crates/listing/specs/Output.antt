@@ -1,5 +1,5 @@
 -- Document 01, "The leaf list": "The program reads a sheet on standard input and prints the list, or one line `refused⇥number⇥line`."
-use Rattle.std.specs.Prelude.{List, ◌++◌, ℕ, length}
+use Rattle.std.specs.Prelude.{Option, Some, None, List, ◌++◌, ℕ}
 use Rattle.answer.specs.declared.Answer.{Answer}
 use Rattle.answer.specs.declared.Answer.TheVariants.{Source}
 use Rattle.answer.specs.Answer.{number_of, values_of}
@@ -8,8 +8,6 @@ use Rattle.text.specs.Field.{decimal_of}
 use Rattle.sheet.specs.Sheet.{Sheet, sheet_of}
 use Rattle.sheet.specs.Sheet.Sheet.{of_type, faulty_at}
 use Rattle.leaf_lines.specs.LeafList.{leaf_list}
-use Rattle.listing.specs.declared.Output.{Output}
-use Rattle.listing.specs.declared.Output.TheVariants.{List as AList, Refused}
 
 unfoldable pub refused_line : ℕ → ℕ → List ℕ
 refused_line number line = bytes "refused\t" ++ decimal_of number ++ bytes "\t" ++ decimal_of line ++ bytes "\n"
@@ -27,7 +25,7 @@ printed (faulty_at k) = refusal (Source k)
 unfoldable pub output_of : List ℕ → List ℕ
 output_of text = printed (sheet_of text)
 
--- which of the two it is, with its length and the faulty line
-abbrev pub kind_of : Sheet → Output
-kind_of (of_type T) = AList (length (leaf_list T))
-kind_of (faulty_at k) = Refused (length (refusal (Source k))) k
+-- the faulty line of a refused sheet
+abbrev pub faulty_line : Sheet → Option ℕ
+faulty_line (of_type T) = None
+faulty_line (faulty_at k) = Some k

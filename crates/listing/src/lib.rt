@@ -5,7 +5,7 @@ ghost use Rattle.std.specs.Prelude.{◌≡◌, ◌≤◌, length, IfSome, OnOk};
 ghost use Rattle.std.specs.Io.KnownBytes.{Appends};
 ghost use Rattle.sheet.specs.Sheet.{sheet_of};
 ghost use Rattle.text.specs.Written.{written, Wrote};
-ghost use Rattle.listing.specs.Output.{refused_line, output_of, kind_of};
+ghost use Rattle.listing.specs.Output.{refused_line, output_of, faulty_line};
 ghost use Rattle.listing.specs.Note.{note_of, said_of};
 
 use crate::note::put_note;
@@ -17,11 +17,11 @@ use text_writing::{put_bytes, put_decimal};
 
 pub mod note;
 
-// A list of so many bytes; or a refusal's line of so many bytes, and the number of the faulty line.
+// What is printed: so many bytes; and of a refused sheet the number of its faulty line.
 #[derive(Clone, Copy)]
-pub enum Output {
-    List(usize),
-    Refused(usize, u32),
+pub struct Output {
+    pub bytes: usize,
+    pub faulty: Option<u32>,
 }
 
 // Writes the line of a refusal.
@@ -39,7 +39,8 @@ fn put_refused(out: &mut [u8], number: u32, line: u32) -> usize
 // Writes what is printed for a sheet. No list has more than 49,166 bytes: the header's 14, and at most 12 for each of 4,096 leaves.
 pub fn put_output(out: &mut [u8], sheet: &[u8]) -> Output
     requires { 49166 ≤ length out.old }
-    ensures kind { result ≡ kind_of (sheet_of sheet.now) }
+    ensures long { result.bytes ≡ length (output_of sheet.now) }
+    ensures faulty { result.faulty ≡ faulty_line (sheet_of sheet.now) }
     ensures bytes { out.new ≡ written out.old 0 (output_of sheet.now) }
 {
     let mut table = [0u32; 8192];
@@ -48,11 +49,17 @@ pub fn put_output(out: &mut [u8], sheet: &[u8]) -> Output
     let v = values_of(a);
     // 0 is done
     if number == 0 {
-        return Output::List(v.count as usize);
+        return Output {
+            bytes: v.count as usize,
+            faulty: None,
+        };
     }
     let line = v.line;
-    let n = put_refused(out, number, line);
-    Output::Refused(n, line)
+    let bytes = put_refused(out, number, line);
+    Output {
+        bytes,
+        faulty: Some(line),
+    }
 }
 
 // Prints what is said of a refused sheet.
@@ -72,12 +79,11 @@ pub fn print_output<W: Write, E: Write>(sheet: &[u8], out: &mut W, notes: &mut E
     ensures said { OnOk result (Appends (E.contents notes.old) (E.contents notes.new) (said_of sheet.now)) }
 {
     let mut bytes = [0u8; 49166];
-    match put_output(&mut bytes, sheet) {
-        Output::List(n) => out.write_all(&bytes[..n]),
-        Output::Refused(n, line) => {
-            out.write_all(&bytes[..n])?;
-            print_note(sheet, line, notes)
-        }
+    let output = put_output(&mut bytes, sheet);
+    out.write_all(&bytes[..output.bytes])?;
+    match output.faulty {
+        Some(line) => print_note(sheet, line, notes),
+        None => Ok(()),
     }
 }
 

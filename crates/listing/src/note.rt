@@ -10,19 +10,10 @@ use text_writing::{put_bytes, put_decimal};
 fn show(b: u8) -> u8
     ensures { result ≡ shown b }
 {
-    if b == 9 {
-        return b;
+    match b {
+        b'\t' | b'\n' | b' '..=b'~' => b,
+        _ => b'?',
     }
-    if b == 10 {
-        return b;
-    }
-    if b < 32 {
-        return 63;
-    }
-    if 126 < b {
-        return 63;
-    }
-    b
 }
 
 // Writes the bytes of a line as they are shown, and answers the next place.
@@ -30,22 +21,17 @@ fn put_shown(out: &mut [u8], at: usize, line: &[u8]) -> usize
     requires { at + length line.now ≤ length out.old }
     ensures { Wrote out.old at (map shown line.now) out.new result }
 {
-    let mut k: usize = 0;
-    while k < line.len() {
-        out[at + k] = show(line[k]);
-        k += 1;
+    for (k, b) in line.iter().enumerate() {
+        out[at + k] = show(*b);
     }
-    at + k
+    at + line.len()
 }
 
 // Whether byte 10 ends a line.
 fn is_ended(line: &[u8]) -> bool
     ensures { result ≡ is_ended line.now }
 {
-    if line.len() == 0 {
-        return false;
-    }
-    line[line.len() - 1] == 10
+    line.ends_with(b"\n")
 }
 
 // Writes what is said of a line without an end, and answers the next place.

@@ -16,9 +16,7 @@ fn load_any(s: &[u8], at: usize, size: usize, order: Order) -> u64
     ensures { (result ≡ container order (take size (drop at s.now))) × (result < 2 ^ (8 * size)) }
 {
     let mut c: u64 = 0;
-    let mut k = size;
-    while 0 < k {
-        k -= 1;
+    for k in (0..size).rev() {
         let i = at + index_of(order, size, k);
         c = c * 256 + s[i] as u64;
     }
@@ -40,7 +38,8 @@ fn digit(s: &[u8], i: usize, place: u64) -> u64
 }
 
 // Straight-line reads: the sum of two or four bytes of s from index at on, each at its place. The compiler turns at most four
-// digits in a sum into one load, where the places are constants.
+// digits in a sum into one load, where the places are constants. One function for each order and size stays: a loop over a
+// constant number of bytes in their place was tried, and in a loop over records it is slower, since those loads are lost.
 fn two(s: &[u8], at: usize, a: u64, b: u64) -> u64
     requires { (at + 2 ≤ length s.now) × (255 * (a + b) < 2 ^ 64) }
     ensures { (result ≡ get_or s.now at 0 * a + get_or s.now (at + 1) 0 * b) × (result ≤ 255 * (a + b)) }

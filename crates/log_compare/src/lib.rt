@@ -43,6 +43,7 @@ pub fn list_len(
     let mut staging = [0u8; STAGING];
     let mut len = HEADER;
     let mut i: usize = 0;
+    // A step is a block, of which the last may be shorter: a range with a step would say that no more plainly.
     while i < count {
         let to = block_end(i, count, x.second_size);
         len += block_len(
@@ -84,6 +85,7 @@ pub fn put_list(
     let mut staging = [0u8; STAGING];
     let mut at = put_header(list);
     let mut k: usize = 0;
+    // By blocks, as above.
     while k < count {
         let to = block_end(k, count, x.second_size);
         at = put_block(

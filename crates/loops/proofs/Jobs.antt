@@ -7,7 +7,8 @@ use native.Mathlib.Omega.{arith}
 use lib.ListN.{length, take, drop}
 use Rattle.datatype.specs.Datatype.{Datatype, size}
 use Rattle.datatype.proofs.Matches.{size_most}
-use Rattle.plans.specs.declared.Raising.{Raising}
+use Rattle.std.specs.Prelude.{Option}
+use Rattle.plans.specs.declared.LeafException.{LeafException}
 use Rattle.records.specs.Record.{Reading, reading, kind_at, raises, raised_below}
 use Rattle.records.specs.Plan.{plan_of, written, raised_by, first_by, AllSound}
 use Rattle.plans.specs.PlanWords.{entries_at, Ready, entries_of, Job}
@@ -67,7 +68,7 @@ module _ {s d : ℕ} {plan : List ℕ} {n : ℕ} {ws wd words : List ℕ} (j : J
       simp tail_lent at (job_call (take (length src - p) (drop p src)) (take (length dst - q) (drop q dst)) e r (lent_room p s src h) (lent_room q d dst g) call)
 
   -- a call of the search in one record, lent from byte p on
-  pub job_scan : (src : List ℕ) (p : ℕ) (r : Raising) → p + s ≤ length src
+  pub job_scan : (src : List ℕ) (p : ℕ) (r : Option LeafException) → p + s ≤ length src
       → (let a : List ℕ = take (length src - p) (drop p src) in
       ((c : ℕ) (t : Ready (length a) c plan n ws wd words) → r ≡ raising_of (first_by (entries_of t) a))
       → r ≡ raising_of (first_by (plan_of j.source j.destination) (take s (drop p src))))

@@ -6,11 +6,7 @@ pub fn copy_bytes(dst: &mut [u8], src: &[u8], n: usize)
     requires { (n ≤ length src.now) × (n ≤ length dst.old) }
     ensures { dst.new ≡ take n src.now ++ drop n dst.old }
 {
-    let mut j = 0;
-    while j < n {
-        dst[j] = src[j];
-        j += 1;
-    }
+    dst[..n].copy_from_slice(&src[..n]);
 }
 
 // The first n bytes of dst become zero.
@@ -18,9 +14,5 @@ pub fn clear_bytes(dst: &mut [u8], n: usize)
     requires { n ≤ length dst.old }
     ensures { dst.new ≡ replicate n 0 ++ drop n dst.old }
 {
-    let mut j = 0;
-    while j < n {
-        dst[j] = 0;
-        j += 1;
-    }
+    dst[..n].fill(0);
 }

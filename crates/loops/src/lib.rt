@@ -5,9 +5,11 @@ pub mod bytes;
 
 use answer::Given;
 
-// The first exception of all records: the record, the byte of the destination record, the kind, and the number that was given.
+// An exception among records: the record, the byte of the destination record, the kind, and the number that was given.
 #[derive(Clone, Copy)]
-pub enum Stop {
-    At(u32, u32, u32, Given),
-    Nowhere,
+pub struct Exception {
+    pub record: u32,
+    pub byte: u32,
+    pub kind: u32,
+    pub given: Given,
 }

@@ -26,19 +26,10 @@ use table::read::{layout_at, type_word};
 fn pads_kept(l: Layout) -> Layout
     ensures { result ≡ pads_kept l }
 {
-    let class = l.class;
-    let size = l.size;
-    let order = l.order;
-    let offset = l.offset;
     Layout {
-        class,
-        size,
-        order,
-        offset,
-        precision: l.precision,
         lsb: Pad::Keep,
         msb: Pad::Keep,
-        signed: l.signed,
+        ..l
     }
 }
 
@@ -77,6 +68,7 @@ fn mark_leaves(
 {
     let bytes = type_word(destination_half, destination_type, SIZE);
     let mut destination_byte: usize = 0;
+    // A step is as long as the leaf that was found: no range has these steps.
     while destination_byte < bytes {
         let m = match_at(
             source_half,

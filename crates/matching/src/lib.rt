@@ -14,9 +14,7 @@ use paths::numbers::{minus, quotient, remainder};
 use paths::types::{gap_end, kind_at, row_end, row_with_byte};
 use paths::{Pair, Walk};
 use table::read::{row_word, type_word};
-use table::{
-    ARRAY, BASE, COMPOUND, FIRST, Found, MEMBER_OFFSET, MEMBER_TYPE, MOST_TYPES, ROWS, SIZE,
-};
+use table::{ARRAY, BASE, COMPOUND, FIRST, MEMBER_OFFSET, MEMBER_TYPE, MOST_TYPES, ROWS, SIZE};
 
 // From the destination's row, at a byte of its compound, into the source compound.
 fn match_named(
@@ -39,14 +37,14 @@ fn match_named(
         destination_sheet,
         row,
     ) {
-        Found::At(m) => {
+        Some(m) => {
             let from = row_word(source_half, m, MEMBER_OFFSET);
             let k = row_word(source_half, m, MEMBER_TYPE);
             let l = row_word(destination_half, row, MEMBER_TYPE);
             let offset = row_word(destination_half, row, MEMBER_OFFSET);
             Walk::On(from, k, l, minus(destination_byte, offset))
         }
-        Found::Missing => Walk::Off(row_end(destination_half, row)),
+        None => Walk::Off(row_end(destination_half, row)),
     }
 }
 
@@ -64,7 +62,7 @@ fn match_compound(
     ensures { Leads source_half.now source_sheet.now source_type destination_half.now destination_sheet.now destination_type destination_byte result }
 {
     match row_with_byte(destination_half, destination_type, destination_byte) {
-        Found::At(j) => match_named(
+        Some(j) => match_named(
             source_half,
             source_sheet,
             source_type,
@@ -73,7 +71,7 @@ fn match_compound(
             j,
             destination_byte,
         ),
-        Found::Missing => {
+        None => {
             let first = type_word(destination_half, destination_type, FIRST);
             let n = type_word(destination_half, destination_type, ROWS);
             let z = type_word(destination_half, destination_type, SIZE);
@@ -178,8 +176,7 @@ pub fn match_at(
     let mut d = destination_type;
     let mut at = destination_byte;
     let mut from: usize = 0;
-    let mut left: usize = MOST_TYPES;
-    while 0 < left {
+    for _ in 0..MOST_TYPES {
         match match_step(
             source_half,
             source_sheet,
@@ -202,7 +199,6 @@ pub fn match_at(
                 return Pair::Unmatched(end - at);
             }
         }
-        left -= 1;
     }
     Pair::Unmatched(1)
 }

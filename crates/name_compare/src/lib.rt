@@ -20,28 +20,22 @@ fn same_bytes(a: &[u8], i: usize, b: &[u8], j: usize, n: usize) -> bool
     requires { (i < 4294967296) × (j < 4294967296) × (n < 4294967296) }
     ensures { result ≡ same (bytes_at a.now i n) (bytes_at b.now j n) }
 {
-    let mut p = i;
-    let mut q = j;
-    let mut left = n;
-    while 1 < left {
-        let x = byte(a, p + (left - 1));
-        let y = byte(b, q + (left - 1));
+    for k in 0..n / 2 {
+        let x = byte(a, i + (n - 1 - k));
+        let y = byte(b, j + (n - 1 - k));
         if x != y {
             return false;
         }
-        let u = byte(a, p);
-        let v = byte(b, q);
+        let u = byte(a, i + k);
+        let v = byte(b, j + k);
         if u != v {
             return false;
         }
-        p += 1;
-        q += 1;
-        left -= 2;
     }
-    if left == 0 {
+    if n % 2 == 0 {
         return true;
     }
-    byte(a, p) == byte(b, q)
+    byte(a, i + n / 2) == byte(b, j + n / 2)
 }
 
 // The len bytes of x from start on are the row's name.

@@ -9,8 +9,7 @@ use lib.ListN.{get_or, length, set, length-set}
 use lib.Seq.{get_or-set_same, get_or-set_other}
 use borrow.Author.Count.{below_more}
 use borrow.Author.Tests.{le-ltb}
-use Rattle.table.specs.declared.Found.{Found}
-use Rattle.table.specs.declared.Found.TheVariants.{At}
+use Rattle.std.specs.Prelude.{Option, Some}
 use Rattle.table.specs.Table.{type_word, row_word, first_word, rows_word, bytes_at, name_at}
 use Rattle.table.specs.Words.{Reads}
 use Rattle.table.specs.Rows.{row_named}
@@ -42,10 +41,10 @@ covers_all w i r h all t j hj hr =
 
 -- ---- ids
 
-pub id_small : (w t x : List ℕ) (n : ℕ) {j : ℕ} {f : Found} → f ≡ row_named w t x 0 n → f ≡ At j → n ≤ 256 → j < 256
+pub id_small : (w t x : List ℕ) (n : ℕ) {j : ℕ} {f : Option ℕ} → f ≡ row_named w t x 0 n → f ≡ Some j → n ≤ 256 → j < 256
 id_small w t x n {j} e q h = omega (arith, (named_within w t x 0 n j (sym e ∙ q)).1)
 
-pub id_read : (w t : List ℕ) (j : ℕ) (wd td : List ℕ) (rows : ℕ) {start len : ℕ} {f g : Found} → Reads (row_word w j 0) start → Reads (row_word w j 1) len
+pub id_read : (w t : List ℕ) (j : ℕ) (wd td : List ℕ) (rows : ℕ) {start len : ℕ} {f g : Option ℕ} → Reads (row_word w j 0) start → Reads (row_word w j 1) len
     → f ≡ row_named wd td (bytes_at t start len) 0 rows → f ≡ g → row_code g ≡ row_code (row_named wd td (name_at w t j) 0 rows)
 id_read w t j wd td rows rs rl e q = rw (← rs.is, ← rl.is, ← e, q)
 

@@ -13,29 +13,16 @@ use entry_code::{LOOKED_UP, route_in};
 use plans::{ENTRY_WORDS, NAMES};
 use row_lookup::row_named;
 use table::read::{row_word, type_word, word};
-use table::{FIRST, Found, MOST_ROWS, MOST_TYPES, NAME, NAME_LENGTH, ROWS};
-
-// The larger of a and b, and no more than a half's rows.
-fn larger(a: usize, b: usize) -> usize
-    requires { a ≤ 256 }
-    ensures { (result ≤ 256) × (a ≤ result) × ((j : ℕ) → j < 256 → j < b → j < result) }
-{
-    if MOST_ROWS <= b {
-        return MOST_ROWS;
-    }
-    if a < b { b } else { a }
-}
+use table::{FIRST, MOST_ROWS, MOST_TYPES, NAME, NAME_LENGTH, ROWS};
 
 // So many of a half's rows that those of every type are among them.
 fn rows_in(half: &[u32]) -> usize
     ensures { (result ≤ 256) × ((i j : ℕ) → j < 256 → j < first_word half.now i + rows_word half.now i → j < result) }
 {
     let mut rows: usize = 0;
-    let mut i: usize = 0;
-    while i < MOST_TYPES {
+    for i in 0..MOST_TYPES {
         let end = type_word(half, i, FIRST) + type_word(half, i, ROWS);
-        rows = larger(rows, end);
-        i += 1;
+        rows = rows.max(end).min(MOST_ROWS);
     }
     rows
 }
@@ -63,8 +50,8 @@ fn name_id(
         start,
         len,
     ) {
-        Found::At(found) => found as u32 + 1,
-        Found::Missing => 0,
+        Some(found) => found as u32 + 1,
+        None => 0,
     }
 }
 
@@ -82,11 +69,8 @@ fn put_ids(
     requires { (rows ≤ 256) × (place + n ≤ length words.old) }
     ensures { IdsPut words.old place half.now sheet.now n destination_half.now destination_sheet.now rows words.new }
 {
-    let mut j: usize = 0;
-    while j < n {
-        let at = place + j;
-        words[at] = name_id(half, sheet, j, destination_half, destination_sheet, rows);
-        j += 1;
+    for j in 0..n {
+        words[place + j] = name_id(half, sheet, j, destination_half, destination_sheet, rows);
     }
 }
 
@@ -95,13 +79,11 @@ fn none_looked_up(words: &[u32], entries: usize) -> bool
     requires { entries ≤ 4096 }
     ensures { result ≡ true → (i : ℕ) → i < entries → route_in (get_or words.now (words_place i) 0) < 7 }
 {
-    let mut i: usize = 0;
-    while i < entries {
+    for i in 0..entries {
         let route = route_in(word(words, NAMES + ENTRY_WORDS * i));
         if LOOKED_UP <= route {
             return false;
         }
-        i += 1;
     }
     true
 }

@@ -7,7 +7,7 @@ use native.Mathlib.Numerals.{sub-one}
 use native.Mathlib.Omega.{arith}
 use lib.ListN.{get_or}
 use Rattle.table.specs.Table.{bytes_at}
-use Rattle.name_marks.specs.Marks.{mark_from, mark_of}
+use Rattle.name_marks.specs.Marks.{mark_from}
 
 pub below : (h : ℕ) → h % 512 < 512
 below h = mod-lt h (omega arith)

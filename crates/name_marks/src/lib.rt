@@ -33,12 +33,8 @@ pub fn mark_of(text: &[u8], start: usize, len: usize) -> usize
     ensures { (result ≡ mark_of (bytes_at text.now start len)) × (result < 512) }
 {
     let mut mark: usize = 0;
-    let mut at = start;
-    let mut left = len;
-    while 0 < left {
+    for at in start..start + len {
         mark = (FACTOR * mark + byte(text, at)) % MARKS;
-        at += 1;
-        left -= 1;
     }
     mark
 }

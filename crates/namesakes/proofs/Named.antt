@@ -15,8 +15,7 @@ use Rattle.datatype.specs.Paths.Lookup.{missing}
 use Rattle.datatype.specs.WellFormed.{Symbols, WellFormedIn}
 use Rattle.datatype.proofs.Tests.{nothing, and_true, same→eq}
 use Rattle.datatype.proofs.Ways.{not_found}
-use Rattle.table.specs.declared.Found.{Found}
-use Rattle.table.specs.declared.Found.TheVariants.{At, Missing}
+use Rattle.std.specs.Prelude.{Option, Some, None}
 use Rattle.table.specs.Table.{row_word, first_word, rows_word, bytes_at, name_at, symbols_at, members_at}
 use Rattle.table.specs.Words.{Reads}
 use Rattle.table.specs.Rows.{row_named, member_found, value_found}
@@ -45,7 +44,7 @@ module _ (w t x : List ℕ) (first n : ℕ) where
       let there = and_true (ltb j (first + n)) (same x (name_at w t j)) here.1 in
       (leb-true first j here.0, ltb-true j (first + n) there.0, there.1)
 
-  pub by_hint : (hint : ℕ) {b : Bool} → b ≡ is_named w t x first n hint → b ≡ true → NamedIn w t x first n (At hint)
+  pub by_hint : (hint : ℕ) {b : Bool} → b ≡ is_named w t x first n hint → b ≡ true → NamedIn w t x first n (Some hint)
   by_hint hint e q =
       record {
         has = λ j p. let at : hint ≡ j = cc in rw (← at) (sym e ∙ q);
@@ -58,18 +57,18 @@ module _ (w t x : List ℕ) (first : ℕ) where
   -- ---- the rows, one after the other
 
   -- one that is found has the name
-  named_has : (n : ℕ) {j : ℕ} → row_named w t x first n ≡ At j → (first ≤ j) × (j < first + n) × (same x (name_at w t j) ≡ true)
+  named_has : (n : ℕ) {j : ℕ} → row_named w t x first n ≡ Some j → (first ≤ j) × (j < first + n) × (same x (name_at w t j) ≡ true)
   unfolding row_named
   named_has zero e = let no : ◌≡◌ {A = ℕ} 0 1 = cc in absurd (omega arith)
   named_has (suc n) {j} e = go (named_has n) (same x (name_at w t (first + n))) refl e
     where
-      go : (row_named w t x first n ≡ At j → (first ≤ j) × (j < first + n) × (same x (name_at w t j) ≡ true))
-          → (b : Bool) → same x (name_at w t (first + n)) ≡ b → cond b (At (first + n)) (row_named w t x first n) ≡ At j
+      go : (row_named w t x first n ≡ Some j → (first ≤ j) × (j < first + n) × (same x (name_at w t j) ≡ true))
+          → (b : Bool) → same x (name_at w t (first + n)) ≡ b → cond b (Some (first + n)) (row_named w t x first n) ≡ Some j
           → (first ≤ j) × (j < first + suc n) × (same x (name_at w t j) ≡ true)
       go later true h q = let at : first + n ≡ j = cc in (omega arith, omega arith, rw at at h)
       go later false h q = let l = later q in (l.0, omega (arith, l.1), l.2)
 
-  pub by_rows : (n : ℕ) {r : Found} → r ≡ row_named w t x first n → NamedIn w t x first n r
+  pub by_rows : (n : ℕ) {r : Option ℕ} → r ≡ row_named w t x first n → NamedIn w t x first n r
   by_rows n e =
       record {
         has = λ j q. let h = named_has n (sym e ∙ q) in sym (row_among w t x first n j h.0 h.1 refl) ∙ h.2;
@@ -77,33 +76,33 @@ module _ (w t x : List ℕ) (first : ℕ) where
       }
 
   -- where one has the name, one is found
-  not_missing : (n j : ℕ) → first ≤ j → j < first + n → same x (name_at w t j) ≡ true → row_named w t x first n ≡ Missing → ⊥
+  not_missing : (n j : ℕ) → first ≤ j → j < first + n → same x (name_at w t j) ≡ true → row_named w t x first n ≡ None → ⊥
   unfolding row_named
   not_missing zero j l r e q = omega arith
   not_missing (suc n) j l r e q =
       go (λ h. not_missing n j l h e) (ℕ_discrete j (first + n)) (same x (name_at w t (first + n))) refl q
     where
-      go : (j < first + n → row_named w t x first n ≡ Missing → ⊥) → Dec (j ≡ first + n)
-          → (b : Bool) → same x (name_at w t (first + n)) ≡ b → cond b (At (first + n)) (row_named w t x first n) ≡ Missing → ⊥
+      go : (j < first + n → row_named w t x first n ≡ None → ⊥) → Dec (j ≡ first + n)
+          → (b : Bool) → same x (name_at w t (first + n)) ≡ b → cond b (Some (first + n)) (row_named w t x first n) ≡ None → ⊥
       go later d true h p = let no : ◌≡◌ {A = ℕ} 0 1 = cc in omega arith
       go later (yes at) false h p = false≢true (sym h ∙ (rw at at e))
       go later (no past) false h p = later (omega arith) p
 
-  pub some_row : (n : ℕ) {r : Found} {j : ℕ} → NamedIn w t x first n r → r ≡ At j → row_named w t x first n ≡ Missing → ⊥
+  pub some_row : (n : ℕ) {r : Option ℕ} {j : ℕ} → NamedIn w t x first n r → r ≡ Some j → row_named w t x first n ≡ None → ⊥
   some_row n {j = j} named e = let h = named→ w t x first n j (named.has j e) in not_missing n j h.0 h.1 h.2
 
   -- ---- unique names
 
-  once : (n j : ℕ) → ((q : ℕ) → q < n → row_named w t (name_at w t (first + q)) first q ≡ Missing) → first ≤ j → j < first + n → same x (name_at w t j) ≡ true
-      → row_named w t x first n ≡ At j
+  once : (n j : ℕ) → ((q : ℕ) → q < n → row_named w t (name_at w t (first + q)) first q ≡ None) → first ≤ j → j < first + n → same x (name_at w t j) ≡ true
+      → row_named w t x first n ≡ Some j
   unfolding row_named
   once zero j each l r e = absurd (omega arith)
   once (suc n) j each l r e =
       go (λ h. once n j (λ q p. each q (omega arith)) l h e) (ℕ_discrete j (first + n)) (same x (name_at w t (first + n))) refl
     where
-      go : (j < first + n → row_named w t x first n ≡ At j) → Dec (j ≡ first + n)
-          → (b : Bool) → same x (name_at w t (first + n)) ≡ b → cond b (At (first + n)) (row_named w t x first n) ≡ At j
-      go later (yes at) true q = ap At (sym at)
+      go : (j < first + n → row_named w t x first n ≡ Some j) → Dec (j ≡ first + n)
+          → (b : Bool) → same x (name_at w t (first + n)) ≡ b → cond b (Some (first + n)) (row_named w t x first n) ≡ Some j
+      go later (yes at) true q = ap Some (sym at)
       go later (yes at) false q = absurd (false≢true (sym q ∙ (rw at at e)))
       go later (no past) true q =
           let none = rw (← (same→eq x (name_at w t (first + n)) q)) at (each n (omega arith)) in
@@ -113,37 +112,37 @@ module _ (w t x : List ℕ) (first : ℕ) where
       go later (no past) false q = later (omega arith)
 
   -- what is found by a name is what row_named finds
-  pub the_one : (n : ℕ) {r : Found} → NamesOnce w t first n → NamedIn w t x first n r → r ≡ row_named w t x first n
+  pub the_one : (n : ℕ) {r : Option ℕ} → NamesOnce w t first n → NamedIn w t x first n r → r ≡ row_named w t x first n
   the_one n {r} f named = go r refl
     where
-      go : (v : Found) → r ≡ v → v ≡ row_named w t x first n
-      go (At j) e = let h = named→ w t x first n j (named.has j e) in sym (once n j f.each h.0 h.1 h.2)
-      go Missing e = sym (named.none e)
+      go : (v : Option ℕ) → r ≡ v → v ≡ row_named w t x first n
+      go (Some j) e = let h = named→ w t x first n j (named.has j e) in sym (once n j f.each h.0 h.1 h.2)
+      go None e = sym (named.none e)
 
 module _ (w t : List ℕ) (first : ℕ) where
-  members_once : (D : ℕ → Datatype) (z n : ℕ) → WellFormedIn z (members_at D w t first n) → (q : ℕ) → q < n → row_named w t (name_at w t (first + q)) first q ≡ Missing
+  members_once : (D : ℕ → Datatype) (z n : ℕ) → WellFormedIn z (members_at D w t first n) → (q : ℕ) → q < n → row_named w t (name_at w t (first + q)) first q ≡ None
   unfolding members_at
   members_once D z zero f q h = absurd (omega arith)
   members_once D z (suc n) f q h = go (λ l. members_once D z n f.2 q l) (ℕ_discrete q n)
     where
-      missing_row : (v : Found) → member_found D w v ≡ missing → v ≡ Missing
-      missing_row (At j) e = not_found (sym e)
-      missing_row Missing e = refl
+      missing_row : (v : Option ℕ) → member_found D w v ≡ missing → v ≡ None
+      missing_row (Some j) e = not_found (sym e)
+      missing_row None e = refl
 
-      go : (q < n → row_named w t (name_at w t (first + q)) first q ≡ Missing) → Dec (q ≡ n) → row_named w t (name_at w t (first + q)) first q ≡ Missing
+      go : (q < n → row_named w t (name_at w t (first + q)) first q ≡ None) → Dec (q ≡ n) → row_named w t (name_at w t (first + q)) first q ≡ None
       go later (yes e) = rw e (missing_row _ (sym (member_named_lem w t (name_at w t (first + n)) first D n) ∙ f.0.name_once))
       go later (no past) = later (omega arith)
 
-  symbols_each : (l : Layout) (n : ℕ) → Symbols l (symbols_at w t first n) → (q : ℕ) → q < n → row_named w t (name_at w t (first + q)) first q ≡ Missing
+  symbols_each : (l : Layout) (n : ℕ) → Symbols l (symbols_at w t first n) → (q : ℕ) → q < n → row_named w t (name_at w t (first + q)) first q ≡ None
   unfolding symbols_at
   symbols_each l zero f q h = absurd (omega arith)
   symbols_each l (suc n) f q h = go (λ p. symbols_each l n f.1 q p) (ℕ_discrete q n)
     where
-      missing_row : (v : Found) → value_found w v ≡ none → v ≡ Missing
-      missing_row (At j) e = nothing (sym e)
-      missing_row Missing e = refl
+      missing_row : (v : Option ℕ) → value_found w v ≡ none → v ≡ None
+      missing_row (Some j) e = nothing (sym e)
+      missing_row None e = refl
 
-      go : (q < n → row_named w t (name_at w t (first + q)) first q ≡ Missing) → Dec (q ≡ n) → row_named w t (name_at w t (first + q)) first q ≡ Missing
+      go : (q < n → row_named w t (name_at w t (first + q)) first q ≡ None) → Dec (q ≡ n) → row_named w t (name_at w t (first + q)) first q ≡ None
       go later (yes e) = rw e (missing_row _ (sym (symbol_named w t (name_at w t (first + n)) first n) ∙ f.0.name_once))
       go later (no past) = later (omega arith)
 
@@ -152,19 +151,19 @@ module _ (w t : List ℕ) (first : ℕ) where
   symbols_once l n f = record { each = symbols_each l n f }
 
   -- and those of a well-formed compound's members
-  pub the_row : (x : List ℕ) (D : ℕ → Datatype) (z n : ℕ) {r : Found} → WellFormedIn z (members_at D w t first n) → NamedIn w t x first n r → r ≡ row_named w t x first n
+  pub the_row : (x : List ℕ) (D : ℕ → Datatype) (z n : ℕ) {r : Option ℕ} → WellFormedIn z (members_at D w t first n) → NamedIn w t x first n r → r ≡ row_named w t x first n
   the_row x D z n f named = the_one w t x first n (record { each = members_once D z n f }) named
 
 pub ruleset hint_laws = (rules, by_rows, by_hint)
 
 -- the name and the rows by the words that were read
-pub by_words : (ws ts : List ℕ) (s : ℕ) (wd td : List ℕ) (row : ℕ) {start len first n : ℕ} {r : Found} → Reads (row_word wd row 0) start → Reads (row_word wd row 1) len
+pub by_words : (ws ts : List ℕ) (s : ℕ) (wd td : List ℕ) (row : ℕ) {start len first n : ℕ} {r : Option ℕ} → Reads (row_word wd row 0) start → Reads (row_word wd row 1) len
     → Reads (first_word ws s) first → Reads (rows_word ws s) n → NamedIn ws ts (bytes_at td start len) first n r
     → NamedIn ws ts (name_at wd td row) (first_word ws s) (rows_word ws s) r
 by_words ws ts s wd td row hs hl hf hn named = rw (← hs.is, ← hl.is, ← hf.is, ← hn.is) named
 
 pub ruleset word_laws = (rules, by_words)
 
-pub one_by_words : (w t x : List ℕ) (k : ℕ) {first n : ℕ} {r : Found} → Reads (first_word w k) first → Reads (rows_word w k) n
+pub one_by_words : (w t x : List ℕ) (k : ℕ) {first n : ℕ} {r : Option ℕ} → Reads (first_word w k) first → Reads (rows_word w k) n
     → NamesOnce w t (first_word w k) (rows_word w k) → NamedIn w t x first n r → r ≡ row_named w t x first n
 one_by_words w t x k {first} {n} hf hn f named = the_one w t x first n (rw (hf.is, hn.is) f) named

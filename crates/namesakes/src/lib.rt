@@ -9,7 +9,7 @@ use name_compare::has_name;
 use name_marks::marked;
 use row_lookup::row_named;
 use table::read::{row_word, type_word};
-use table::{FIRST, Found, NAME, NAME_LENGTH, ROWS};
+use table::{FIRST, NAME, NAME_LENGTH, ROWS};
 
 // The row is one of the n rows from first on, and its name is the len bytes of x from start on.
 fn is_named(
@@ -45,18 +45,18 @@ pub fn row_by_hint(
     x: &[u8],
     start: usize,
     len: usize,
-) -> Found
+) -> Option<usize>
     requires { (first < 4294967296) × (n < 4294967296) × (start < 4294967296) × (len < 4294967296) }
     ensures { NamedIn half.now sheet.now (bytes_at x.now start len) first n result }
 {
     if is_named(half, sheet, first, n, hint, x, start, len) {
-        return Found::At(hint);
+        return Some(hint);
     }
     let above = marked(half, x, start, len);
     if 0 < above {
         let noted = above - 1;
         if is_named(half, sheet, first, n, noted, x, start, len) {
-            return Found::At(noted);
+            return Some(noted);
         }
     }
     row_named(half, sheet, first, n, x, start, len)
@@ -70,7 +70,7 @@ pub fn namesake(
     destination_half: &[u32],
     destination_sheet: &[u8],
     row: usize,
-) -> Found
+) -> Option<usize>
     ensures { NamedIn source_half.now source_sheet.now (name_at destination_half.now destination_sheet.now row) (first_word source_half.now source_type) (rows_word source_half.now source_type) result }
 {
     let start = row_word(destination_half, row, NAME);

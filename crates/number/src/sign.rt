@@ -76,10 +76,7 @@ pub fn number_of(signed: bool, precision: u32, raw: u64) -> Number
 pub fn given_signed(z: i64) -> Given
     ensures { result ≡ number_given z }
 {
-    if z < 0 {
-        return Given::Whole(true, (!z as u64) + 1);
-    }
-    Given::Whole(false, z as u64)
+    Given::Whole(z < 0, z.unsigned_abs())
 }
 
 pub fn given_number(z: Number) -> Given

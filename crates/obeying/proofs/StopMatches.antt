@@ -1,12 +1,12 @@
 -- What is matched of the leaves that obey stop. Assumes nothing.
 use mathlib.Core.Path.{◌≡◌, refl, sym, ap, ◌∙◌}
 use mathlib.Core.List.{List}
-use Prim.Native.Nat.{ℕ, zero, suc, ◌+◌, ◌≤◌, ◌<◌}
+use Prim.Native.Nat.{ℕ, zero, suc, ◌+◌, ◌<◌}
 use native.Mathlib.Nat.{add-zero}
 use native.Mathlib.Omega.{arith}
-use Rattle.datatype.specs.Datatype.{Datatype, size}
+use Rattle.datatype.specs.Datatype.{Datatype}
 use Rattle.datatype.specs.Matches.{Match, match_at}
-use Rattle.datatype.specs.Matches.Match.{unmatched, matched}
+use Rattle.datatype.specs.Matches.Match.{unmatched}
 use Rattle.datatype.specs.Handling.{handling_at}
 use Rattle.datatype.specs.WellFormed.{WellFormed}
 use Rattle.datatype.proofs.Stopping.{stopping, if_stop, stopping_size, stopping_formed, stopping_match}

@@ -1,5 +1,5 @@
 -- One step down to the leaf at a byte, and the word that is met; and the leaves that obey stop.
-use Rattle.std.specs.Prelude.{◌≡◌, List, ℕ, ◌+◌, ◌<◌}
+use Rattle.std.specs.Prelude.{Option, Some, None, ◌≡◌, List, ℕ, ◌+◌, ◌<◌}
 use Rattle.datatype.specs.declared.Word.{Word}
 use Rattle.datatype.specs.declared.Word.TheVariants.{Silent}
 use Rattle.datatype.specs.Datatype.{Datatype, size}
@@ -10,13 +10,12 @@ use Rattle.datatype.specs.WellFormed.{WellFormed}
 use Rattle.table.specs.Table.{class_word, base_word, first_word, rows_word, member_type_word, word_at_row, node}
 use Rattle.paths.specs.Steps.{Sized}
 use Rattle.obeying.specs.declared.Down.{Down}
-use Rattle.obeying.specs.declared.Down.TheVariants.{Go, Ends}
 
-abbrev pub word_after : (ℕ → Datatype) → Down → Word
-word_after D (Go k b word) = or_outer (word_at (D k) b) word
-word_after D Ends = Silent
+abbrev pub word_after : (ℕ → Datatype) → Option Down → Word
+word_after D (Some r) = or_outer (word_at (D r.type_number) r.byte) r.word
+word_after D None = Silent
 
-abbrev pub WordStep : List ℕ → ℕ → ℕ → Down → Type 0
+abbrev pub WordStep : List ℕ → ℕ → ℕ → Option Down → Type 0
 WordStep w i b r = (D : ℕ → Datatype) (t : List ℕ) → Sized D w → word_at (node D w t i) b ≡ word_after D r
 
 -- of the n rows from first on, members of type i, none has a word that asks for another handling than h, and each is of a type before i

@@ -12,15 +12,16 @@ use paths::types::{kind_at, row_over};
 use table::codes::word_of;
 use table::read::{row_word, type_word};
 use table::{
-    ARRAY, BASE, CLASS, COMPOUND, FIRST, Found, MEMBER_OFFSET, MEMBER_TYPE, MEMBER_WORD,
-    MOST_TYPES, ROWS, SIZE,
+    ARRAY, BASE, CLASS, COMPOUND, FIRST, MEMBER_OFFSET, MEMBER_TYPE, MEMBER_WORD, MOST_TYPES, ROWS,
+    SIZE,
 };
 
-// One step down from a type at a byte: to an inner type at a byte of it, with the word of the member that leads there; or no member is met any more.
+// One step down from a type at a byte: to an inner type at a byte of it, with the word of the member that leads there.
 #[derive(Clone, Copy)]
-pub enum Down {
-    Go(usize, usize, Word),
-    Ends,
+pub struct Down {
+    pub type_number: usize,
+    pub byte: usize,
+    pub word: Word,
 }
 
 // What a word makes of a handling.
@@ -34,27 +35,30 @@ fn ask(word: Word, handling: u32) -> u32
     }
 }
 
-fn word_step(half: &[u32], type_number: usize, byte: usize) -> Down
+// One step down, where a member is met.
+fn word_step(half: &[u32], type_number: usize, byte: usize) -> Option<Down>
     ensures { WordStep half.now type_number byte result }
 {
     let kind = kind_at(half, type_number);
     if kind == COMPOUND {
         let first = type_word(half, type_number, FIRST);
         let n = type_word(half, type_number, ROWS);
-        match row_over(half, first, n, byte) {
-            Found::At(j) => Down::Go(
-                row_word(half, j, MEMBER_TYPE),
-                minus(byte, row_word(half, j, MEMBER_OFFSET)),
-                word_of(row_word(half, j, MEMBER_WORD)),
-            ),
-            Found::Missing => Down::Ends,
-        }
+        let j = row_over(half, first, n, byte)?;
+        Some(Down {
+            type_number: row_word(half, j, MEMBER_TYPE),
+            byte: minus(byte, row_word(half, j, MEMBER_OFFSET)),
+            word: word_of(row_word(half, j, MEMBER_WORD)),
+        })
     } else if kind == ARRAY {
         let k = type_word(half, type_number, BASE);
         let y = type_word(half, k, SIZE);
-        Down::Go(k, remainder(byte, y), Word::Silent)
+        Some(Down {
+            type_number: k,
+            byte: remainder(byte, y),
+            word: Word::Silent,
+        })
     } else {
-        Down::Ends
+        None
     }
 }
 
@@ -65,19 +69,13 @@ pub fn handling_at(half: &[u32], type_number: usize, byte: usize, handling: u32)
     let mut k = type_number;
     let mut at = byte;
     let mut obeyed = handling;
-    let mut left: usize = MOST_TYPES;
-    while 0 < left {
-        match word_step(half, k, at) {
-            Down::Go(inner, inner_byte, word) => {
-                k = inner;
-                at = inner_byte;
-                obeyed = ask(word, obeyed);
-            }
-            Down::Ends => {
-                return obeyed;
-            }
-        }
-        left -= 1;
+    for _ in 0..MOST_TYPES {
+        let Some(down) = word_step(half, k, at) else {
+            return obeyed;
+        };
+        k = down.type_number;
+        at = down.byte;
+        obeyed = ask(down.word, obeyed);
     }
     obeyed
 }
@@ -88,8 +86,7 @@ fn rows_ask(half: &[u32], type_number: usize, first: usize, n: usize, handling: 
     requires { (first < 4294967296) × (n < 4294967296) }
     ensures { result ≡ false → RowsObey half.now handling type_number first n }
 {
-    let mut row: usize = 0;
-    while row < n {
+    for row in 0..n {
         let word = word_of(row_word(half, first + row, MEMBER_WORD));
         if ask(word, handling) != handling {
             return true;
@@ -98,7 +95,6 @@ fn rows_ask(half: &[u32], type_number: usize, first: usize, n: usize, handling: 
         if type_number <= inner {
             return true;
         }
-        row += 1;
     }
     false
 }
@@ -124,15 +120,13 @@ fn type_asks(half: &[u32], type_number: usize, handling: u32) -> bool
 pub fn asks_other(half: &[u32], type_number: usize, handling: u32) -> bool
     ensures { result ≡ false → (t : List ℕ) (b : ℕ) → handling_at handling (type_at half.now t type_number) b ≡ handling }
 {
-    let mut k: usize = 0;
-    while k < MOST_TYPES {
+    for k in 0..MOST_TYPES {
         if type_number < k {
             return false;
         }
         if type_asks(half, k, handling) {
             return true;
         }
-        k += 1;
     }
     false
 }

@@ -17,7 +17,7 @@ use enum_leaf::{convert_enum, convert_enum_fast, enum_kind};
 use given_leaf::given_at;
 use number_leaf::{convert_number, number_kind};
 use plan_words::entry;
-use plans::{ENTRY_WORDS, NAMES, PlanEntry, Raising};
+use plans::{ENTRY_WORDS, LeafException, NAMES, PlanEntry};
 use real_leaf::{convert_real, convert_real_fast, real_kind};
 
 // Where the words of entry i begin.
@@ -217,12 +217,10 @@ pub fn write_record(
     ensures { (p : Ready (length src.now) (length dst.old) plan.now entries source_half.now destination_half.now words.now) → (dst.new ≡ written (entries_of p) src.now dst.old) × (result ≡ raised_by (entries_of p) src.now) }
 {
     let mut raised: u64 = 0;
-    let mut i: usize = 0;
-    while i < entries {
+    for i in 0..entries {
         let e = entry(plan, i);
         let kind = write_entry(src, dst, e, i, source_half, destination_half, words);
         raised += counted(kind);
-        i += 1;
     }
     raised
 }
@@ -235,19 +233,18 @@ pub fn first_raising(
     source_half: &[u32],
     destination_half: &[u32],
     words: &[u32],
-) -> Raising
+) -> Option<LeafException>
     requires { (d : ℕ) × Ready (length src.now) d plan.now entries source_half.now destination_half.now words.now }
     ensures { (d : ℕ) (p : Ready (length src.now) d plan.now entries source_half.now destination_half.now words.now) → result ≡ raising_of (first_by (entries_of p) src.now) }
 {
-    let mut i: usize = 0;
-    while i < entries {
+    for i in 0..entries {
         let e = entry(plan, i);
-        let b = e.to as u32;
+        let byte = e.to as u32;
         let kind = entry_kind(src, e, i, source_half, destination_half, words);
         if kind != 0 {
-            return Raising::At(b, kind, given_at(src, e.from, e.source, source_half));
+            let given = given_at(src, e.from, e.source, source_half);
+            return Some(LeafException { byte, kind, given });
         }
-        i += 1;
     }
-    Raising::Nowhere
+    None
 }

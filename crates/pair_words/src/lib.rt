@@ -75,7 +75,7 @@ fn put_enum(
     requires { PairFormed source_half.now source_sheet.now destination_half.now destination_sheet.now source_type destination_type × (class_word destination_half.now destination_type ≡ 2) × EntryRoom (length words.old) place free }
     ensures { EntryPut words.old place free free source_half.now source_sheet.now destination_half.now destination_sheet.now source_type destination_type words.new result × (result ≤ length words.old) }
 {
-    let Span::Of(low, count) = span_of(source_half, source_type, words.len() - free) else {
+    let Some(Span { low, count }) = span_of(source_half, source_type, words.len() - free) else {
         put_four(words, place, LOOKED_UP as u32, 0, 0, 0);
         return free;
     };

@@ -7,9 +7,9 @@ ghost use Rattle.datatype.specs.WellFormed.{WellFormed};
 ghost use Rattle.table.specs.Table.{decode, type_at};
 ghost use Rattle.paths.specs.Steps.{int_and_real, Turns};
 
+use paths::Turn;
 use paths::dimensions::same_dimensions;
 use paths::types::{inner_types, kind_at};
-use paths::{Inner, Turn};
 use table::read::type_word;
 use table::{ARRAY, BASE, COMPOUND, FIRST, INT, MOST_TYPES, REAL, ROWS};
 
@@ -83,31 +83,27 @@ fn path_to(
         ),
         Turn::Lists => {
             let first = type_word(destination_half, destination_type, FIRST);
-            let mut left = type_word(destination_half, destination_type, ROWS);
-            while 0 < left {
-                left -= 1;
-                match inner_types(
+            let n = type_word(destination_half, destination_type, ROWS);
+            for i in (0..n).rev() {
+                if let Some(inner) = inner_types(
                     source_half,
                     source_sheet,
                     source_type,
                     destination_half,
                     destination_sheet,
-                    first + left,
+                    first + i,
                 ) {
-                    Inner::Both(k, l) => {
-                        if !path_to(
-                            source_half,
-                            source_sheet,
-                            k,
-                            destination_half,
-                            destination_sheet,
-                            l,
-                            depth - 1,
-                        ) {
-                            return false;
-                        }
+                    if !path_to(
+                        source_half,
+                        source_sheet,
+                        inner.source,
+                        destination_half,
+                        destination_sheet,
+                        inner.destination,
+                        depth - 1,
+                    ) {
+                        return false;
                     }
-                    Inner::Neither => {}
                 }
             }
             true

@@ -2,7 +2,7 @@
 use mathlib.Core.Path.{◌≡◌, refl, sym, ap, ◌∙◌}
 use mathlib.Core.Bool.{cond}
 use mathlib.Core.List.{List}
-use mathlib.Core.Option.{Option, none, some}
+use mathlib.Core.Option.{Option as MathOption, none, some}
 use Prim.Native.Nat.{ℕ, zero, suc, ◌+◌, ◌-◌, ◌%◌, ◌≤◌, ◌<◌}
 use native.Mathlib.Nat.{not-suc-le-zero}
 use lib.Dec.{eqb, ltb}
@@ -10,8 +10,7 @@ use borrow.Author.Rules.{rules}
 use borrow.Author.Tests.{ne_eqb, eq-eqb, lt-ltb, le-ltb}
 use Rattle.datatype.specs.Datatype.{Leaf, Datatype}
 use Rattle.datatype.specs.Leaves.{leaf_at, leaf_in}
-use Rattle.table.specs.declared.Found.{Found}
-use Rattle.table.specs.declared.Found.TheVariants.{At, Missing}
+use Rattle.std.specs.Prelude.{Option, Some, None}
 use Rattle.table.specs.Table.{size_word, base_word, first_word, rows_word, offset_word, member_type_word, members_at, node, decode}
 use Rattle.table.specs.Words.{Reads}
 use Rattle.paths.specs.declared.Step.{Step}
@@ -21,9 +20,9 @@ use Rattle.paths.specs.Steps.{Sized, kind_at, covers, row_over, leaf_after, Leaf
 use Rattle.paths.proofs.Shapes.{compound_node, array_node, leaf_node, decode_step, size_decode}
 use Rattle.paths.proofs.Rows.{cond_push}
 
-abbrev leaf_over : (ℕ → Datatype) → List ℕ → ℕ → Found → Option Leaf
-leaf_over D w b (At j) = leaf_at (D (member_type_word w j)) (b - offset_word w j)
-leaf_over D w b Missing = none
+abbrev leaf_over : (ℕ → Datatype) → List ℕ → ℕ → Option ℕ → MathOption Leaf
+leaf_over D w b (Some j) = leaf_at (D (member_type_word w j)) (b - offset_word w j)
+leaf_over D w b None = none
 
 members_leaf : (D : ℕ → Datatype) (w t : List ℕ) → Sized D w → (first n b : ℕ) → leaf_in (members_at D w t first n) b ≡ leaf_over D w b (row_over w first n b)
 unfolding members_at row_over leaf_at
@@ -31,20 +30,20 @@ members_leaf D w t sized first zero b = refl
 members_leaf D w t sized first (suc n) b =
     rw (sized (member_type_word w (first + n)))
     (ap (cond (covers w (first + n) b) (leaf_at (D (member_type_word w (first + n))) (b - offset_word w (first + n)))) (members_leaf D w t sized first n b)
-    ∙ cond_push (leaf_over D w b) (At (first + n)) (row_over w first n b) (covers w (first + n) b))
+    ∙ cond_push (leaf_over D w b) (Some (first + n)) (row_over w first n b) (covers w (first + n) b))
 
 -- ---- one step
 
 module _ (w : List ℕ) (i b : ℕ) {kind : ℕ} (hc : kind ≡ kind_at w i) where
-  module _ (h : kind ≡ 3) {first n : ℕ} {r : Found} (hf : Reads (first_word w i) first) (hn : Reads (rows_word w i) n) (hr : r ≡ row_over w first n b) where
+  module _ (h : kind ≡ 3) {first n : ℕ} {r : Option ℕ} (hf : Reads (first_word w i) first) (hn : Reads (rows_word w i) n) (hr : r ≡ row_over w first n b) where
     compound_leaf : (D : ℕ → Datatype) (t : List ℕ) → Sized D w → leaf_at (node D w t i) b ≡ leaf_over D w b r
     unfolding leaf_at
     compound_leaf D t sized = rw (compound_node D w t i (sym hc ∙ h), ← hf.is, ← hn.is, hr) (members_leaf D w t sized first n b)
 
-    pub compound_gone : r ≡ Missing → LeafStep w i b Gone
+    pub compound_gone : r ≡ None → LeafStep w i b Gone
     compound_gone e D t sized = compound_leaf D t sized ∙ ap (leaf_over D w b) e
 
-    pub compound_go : {j k o a : ℕ} → r ≡ At j → Reads (member_type_word w j) k → Reads (offset_word w j) o → a ≡ b - o → LeafStep w i b (Go k a)
+    pub compound_go : {j k o a : ℕ} → r ≡ Some j → Reads (member_type_word w j) k → Reads (offset_word w j) o → a ≡ b - o → LeafStep w i b (Go k a)
     compound_go e hk ho ha D t sized = compound_leaf D t sized ∙ ap (leaf_over D w b) e ∙ rw (ha, hk.is, ho.is) refl
 
   module _ (h : kind ≡ 4) {z k y : ℕ} (hz : Reads (size_word w i) z) (hk : Reads (base_word w i) k) (hy : Reads (size_word w k) y) where

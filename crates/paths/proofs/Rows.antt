@@ -17,8 +17,7 @@ use Rattle.datatype.specs.Leaves.{within}
 use Rattle.datatype.specs.WellFormed.{Apart, WellFormed, WellFormedIn}
 use Rattle.datatype.proofs.Tests.{within→, →within, not_within}
 use Rattle.datatype.proofs.Ways.{formed_found}
-use Rattle.table.specs.declared.Found.{Found}
-use Rattle.table.specs.declared.Found.TheVariants.{At, Missing}
+use Rattle.std.specs.Prelude.{Option, Some, None}
 use Rattle.table.specs.Table.{size_word, first_word, rows_word, offset_word, member_type_word, members_at}
 use Rattle.table.specs.Words.{Reads}
 use Rattle.table.specs.Rows.{row_named, member_found}
@@ -32,12 +31,12 @@ cond_push f x y false = refl
 -- ---- by a byte, one row after the other
 
 module _ (w : List ℕ) (first b : ℕ) where
-  pub over_none : (n : ℕ) → n ≤ 0 → row_over w first n b ≡ Missing
+  pub over_none : (n : ℕ) → n ≤ 0 → row_over w first n b ≡ None
   unfolding row_over
   over_none zero h = refl
   over_none (suc n) h = absurd (not-suc-le-zero h)
 
-  pub over_hit : (n : ℕ) {r : Bool} → 0 < n → r ≡ covers w (first + (n - 1)) b → r ≡ true → row_over w first n b ≡ At (first + (n - 1))
+  pub over_hit : (n : ℕ) {r : Bool} → 0 < n → r ≡ covers w (first + (n - 1)) b → r ≡ true → row_over w first n b ≡ Some (first + (n - 1))
   unfolding row_over
   over_hit zero h e q = absurd (not-suc-le-zero h)
   over_hit (suc n) h e q = rw sub-one (rw (← (rw sub-one at e), q) refl)
@@ -48,22 +47,22 @@ module _ (w : List ℕ) (first b : ℕ) where
   over_skip (suc n) h e q = rw sub-one (rw (← (rw sub-one at e), q) refl)
 
   -- a row that is found has the byte
-  pub over_has : (n : ℕ) {j : ℕ} → row_over w first n b ≡ At j → (first ≤ j) × (j < first + n) × (covers w j b ≡ true)
+  pub over_has : (n : ℕ) {j : ℕ} → row_over w first n b ≡ Some j → (first ≤ j) × (j < first + n) × (covers w j b ≡ true)
   unfolding row_over
   over_has zero e = let no : ◌≡◌ {A = ℕ} 0 1 = cc in absurd (omega arith)
   over_has (suc n) {j} e = go (over_has n) (covers w (first + n) b) refl e
     where
-      go : (row_over w first n b ≡ At j → (first ≤ j) × (j < first + n) × (covers w j b ≡ true))
-          → (c : Bool) → covers w (first + n) b ≡ c → cond c (At (first + n)) (row_over w first n b) ≡ At j
+      go : (row_over w first n b ≡ Some j → (first ≤ j) × (j < first + n) × (covers w j b ≡ true))
+          → (c : Bool) → covers w (first + n) b ≡ c → cond c (Some (first + n)) (row_over w first n b) ≡ Some j
           → (first ≤ j) × (j < first + suc n) × (covers w j b ≡ true)
       go later true h q = let at : first + n ≡ j = cc in (omega arith, omega arith, rw at at h)
       go later false h q = let l = later q in (l.0, omega (arith, l.1), l.2)
 
-  pub over_rows : (n : ℕ) {r : Found} → r ≡ row_over w first n b → OverIn w first n b r
+  pub over_rows : (n : ℕ) {r : Option ℕ} → r ≡ row_over w first n b → OverIn w first n b r
   over_rows n e = record { has = λ j q. over_has n (sym e ∙ q); none = λ q. sym e ∙ q }
 
   -- a row near a place has it
-  pub over_place : (n at : ℕ) {t : Bool} → at < n → t ≡ covers w (first + at) b → t ≡ true → OverIn w first n b (At (first + at))
+  pub over_place : (n at : ℕ) {t : Bool} → at < n → t ≡ covers w (first + at) b → t ≡ true → OverIn w first n b (Some (first + at))
   over_place n at h e q =
       record {
         has = λ j p. let is : first + at ≡ j = cc in (omega arith, omega arith, rw (← is) (sym e ∙ q));
@@ -71,7 +70,7 @@ module _ (w : List ℕ) (first b : ℕ) where
       }
 
 -- the rows by the words that were read, and a product of two words
-pub over_words : (w : List ℕ) (i b : ℕ) {first n : ℕ} {r : Found} → Reads (first_word w i) first → Reads (rows_word w i) n → OverIn w first n b r
+pub over_words : (w : List ℕ) (i b : ℕ) {first n : ℕ} {r : Option ℕ} → Reads (first_word w i) first → Reads (rows_word w i) n → OverIn w first n b r
     → OverIn w (first_word w i) (rows_word w i) b r
 over_words w i b hf hn over = rw (← hf.is, ← hn.is) over
 
@@ -121,13 +120,13 @@ past_within o v b c r e clear l h = go (within o v c) refl clear
     go true q (inr k) = absurd (omega (arith, within→ o v c q))
 
 pub over_gap : (w : List ℕ) (first n b c r : ℕ) → ((i : ℕ) → i < n → (offset_word w (first + i) ≤ b) ⊎ (r ≤ offset_word w (first + i)))
-    → row_over w first n b ≡ Missing → b ≤ c → c < r → row_over w first n c ≡ Missing
+    → row_over w first n b ≡ None → b ≤ c → c < r → row_over w first n c ≡ None
 unfolding row_over
 over_gap w first zero b c r clear e l h = refl
 over_gap w first (suc n) b c r clear e l h = go (λ q. over_gap w first n b c r (λ i g. clear i (omega arith)) q l h) (covers w (first + n) b) refl e
   where
-    go : (row_over w first n b ≡ Missing → row_over w first n c ≡ Missing) → (x : Bool) → covers w (first + n) b ≡ x → cond x (At (first + n)) (row_over w first n b) ≡ Missing
-        → cond (covers w (first + n) c) (At (first + n)) (row_over w first n c) ≡ Missing
+    go : (row_over w first n b ≡ None → row_over w first n c ≡ None) → (x : Bool) → covers w (first + n) b ≡ x → cond x (Some (first + n)) (row_over w first n b) ≡ None
+        → cond (covers w (first + n) c) (Some (first + n)) (row_over w first n c) ≡ None
     go later true k q = let no : ◌≡◌ {A = ℕ} 0 1 = cc in absurd (omega arith)
     go later false k q =
         rw (past_within (offset_word w (first + n)) (size_word w (member_type_word w (first + n))) b c r k (clear n (omega arith)) l h)
@@ -136,41 +135,41 @@ over_gap w first (suc n) b c r clear e l h = go (λ q. over_gap w first n b c r 
 -- ---- what a row that is found is
 
 module _ (D : ℕ → Datatype) (w t : List ℕ) (z first : ℕ) where
-  pub over_formed : (n b : ℕ) {j : ℕ} → WellFormedIn z (members_at D w t first n) → row_over w first n b ≡ At j
+  pub over_formed : (n b : ℕ) {j : ℕ} → WellFormedIn z (members_at D w t first n) → row_over w first n b ≡ Some j
       → (offset_word w j + size (D (member_type_word w j)) ≤ z) × WellFormed (D (member_type_word w j))
   unfolding row_over members_at
   over_formed zero b f e = let no : ◌≡◌ {A = ℕ} 0 1 = cc in absurd (omega arith)
   over_formed (suc n) b {j} f e = go (over_formed n b f.2) (covers w (first + n) b) e
     where
-      go : (row_over w first n b ≡ At j → (offset_word w j + size (D (member_type_word w j)) ≤ z) × WellFormed (D (member_type_word w j)))
-          → (c : Bool) → cond c (At (first + n)) (row_over w first n b) ≡ At j → (offset_word w j + size (D (member_type_word w j)) ≤ z) × WellFormed (D (member_type_word w j))
+      go : (row_over w first n b ≡ Some j → (offset_word w j + size (D (member_type_word w j)) ≤ z) × WellFormed (D (member_type_word w j)))
+          → (c : Bool) → cond c (Some (first + n)) (row_over w first n b) ≡ Some j → (offset_word w j + size (D (member_type_word w j)) ≤ z) × WellFormed (D (member_type_word w j))
       go later true q = let at : first + n ≡ j = cc in rw (← at) (f.0.inside, f.1)
       go later false q = later q
 
-  pub named_formed : (x : List ℕ) (n : ℕ) {j : ℕ} → WellFormedIn z (members_at D w t first n) → row_named w t x first n ≡ At j
+  pub named_formed : (x : List ℕ) (n : ℕ) {j : ℕ} → WellFormedIn z (members_at D w t first n) → row_named w t x first n ≡ Some j
       → (offset_word w j + size (D (member_type_word w j)) ≤ z) × WellFormed (D (member_type_word w j))
   named_formed x n f e = formed_found z (members_at D w t first n) x f (member_named_lem w t x first D n ∙ ap (member_found D w) e)
 
   -- the bytes from o on lie apart from the member in a row that is found
-  apart_over : (o v n b : ℕ) {j : ℕ} → Apart o v (members_at D w t first n) → row_over w first n b ≡ At j
+  apart_over : (o v n b : ℕ) {j : ℕ} → Apart o v (members_at D w t first n) → row_over w first n b ≡ Some j
       → (o + v ≤ offset_word w j) ⊎ (offset_word w j + size (D (member_type_word w j)) ≤ o)
   unfolding row_over members_at
   apart_over o v zero b a e = let no : ◌≡◌ {A = ℕ} 0 1 = cc in absurd (omega arith)
   apart_over o v (suc n) b {j} a e = go (apart_over o v n b a.1) (covers w (first + n) b) e
     where
-      go : (row_over w first n b ≡ At j → (o + v ≤ offset_word w j) ⊎ (offset_word w j + size (D (member_type_word w j)) ≤ o))
-          → (c : Bool) → cond c (At (first + n)) (row_over w first n b) ≡ At j → (o + v ≤ offset_word w j) ⊎ (offset_word w j + size (D (member_type_word w j)) ≤ o)
+      go : (row_over w first n b ≡ Some j → (o + v ≤ offset_word w j) ⊎ (offset_word w j + size (D (member_type_word w j)) ≤ o))
+          → (c : Bool) → cond c (Some (first + n)) (row_over w first n b) ≡ Some j → (o + v ≤ offset_word w j) ⊎ (offset_word w j + size (D (member_type_word w j)) ≤ o)
       go later true q = let at : first + n ≡ j = cc in rw (← at) a.0
       go later false q = later q
 
   -- members do not overlap: a row that has the byte is the row that is found
-  over_once : Sized D w → (n b j : ℕ) → WellFormedIn z (members_at D w t first n) → first ≤ j → j < first + n → covers w j b ≡ true → row_over w first n b ≡ At j
+  over_once : Sized D w → (n b j : ℕ) → WellFormedIn z (members_at D w t first n) → first ≤ j → j < first + n → covers w j b ≡ true → row_over w first n b ≡ Some j
   unfolding row_over members_at
   over_once sized zero b j f l r e = absurd (omega arith)
   over_once sized (suc n) b j f l r e = go (λ h. over_once sized n b j f.2 l h e) (ℕ_discrete j (first + n))
     where
-      go : (j < first + n → row_over w first n b ≡ At j) → Dec (j ≡ first + n)
-          → cond (covers w (first + n) b) (At (first + n)) (row_over w first n b) ≡ At j
+      go : (j < first + n → row_over w first n b ≡ Some j) → Dec (j ≡ first + n)
+          → cond (covers w (first + n) b) (Some (first + n)) (row_over w first n b) ≡ Some j
       go older (yes is) = rw (← is, e) refl
       go older (no past) =
           let o : ℕ = offset_word w (first + n) in
@@ -181,16 +180,16 @@ module _ (D : ℕ → Datatype) (w t : List ℕ) (z first : ℕ) where
           rw (← sized (member_type_word w (first + n)), ← at, not_within o v (offset_word w j) (size (D (member_type_word w j))) (b - offset_word w j) (apart_over o v n b f.0.apart later) (omega (arith, here, sized (member_type_word w j))), at)
           later
 
-  pub the_row_over : Sized D w → (n b : ℕ) {r : Found} → WellFormedIn z (members_at D w t first n) → OverIn w first n b r → r ≡ row_over w first n b
+  pub the_row_over : Sized D w → (n b : ℕ) {r : Option ℕ} → WellFormedIn z (members_at D w t first n) → OverIn w first n b r → r ≡ row_over w first n b
   the_row_over sized n b {r} f over = go r refl
     where
-      go : (v : Found) → r ≡ v → v ≡ row_over w first n b
-      go (At j) e = let h = over.has j e in sym (over_once sized n b j f h.0 h.1 h.2)
-      go Missing e = sym (over.none e)
+      go : (v : Option ℕ) → r ≡ v → v ≡ row_over w first n b
+      go (Some j) e = let h = over.has j e in sym (over_once sized n b j f h.0 h.1 h.2)
+      go None e = sym (over.none e)
 
   -- the same row is found by every byte of its member
-  pub over_same : Sized D w → (n b c : ℕ) {j : ℕ} → WellFormedIn z (members_at D w t first n) → row_over w first n b ≡ At j → offset_word w j ≤ c → c < row_end w j
-      → row_over w first n c ≡ At j
+  pub over_same : Sized D w → (n b c : ℕ) {j : ℕ} → WellFormedIn z (members_at D w t first n) → row_over w first n b ≡ Some j → offset_word w j ≤ c → c < row_end w j
+      → row_over w first n c ≡ Some j
   over_same sized n b c {j} f e l r =
       let found = over_has w first b n e in
       let at : offset_word w j + (c - offset_word w j) ≡ c = omega arith in

@@ -17,8 +17,7 @@ use Rattle.datatype.specs.declared.Word.{Word}
 use Rattle.datatype.specs.Datatype.Members.{empty, member}
 use Rattle.datatype.specs.Paths.{is_same_class, leaf_path, Lookup, on_found, member_named, has_path, paths_to}
 use Rattle.datatype.specs.WellFormed.{WellFormed, WellFormedIn}
-use Rattle.table.specs.declared.Found.{Found}
-use Rattle.table.specs.declared.Found.TheVariants.{At, Missing}
+use Rattle.std.specs.Prelude.{Option, Some, None}
 use Rattle.table.specs.Table.{size_word, base_word, first_word, rows_word, member_type_word, name_at, members_at, dimensions_at, node, decode}
 use Rattle.table.specs.Records.{class_code}
 use Rattle.table.specs.Words.{Reads}
@@ -29,7 +28,6 @@ use Rattle.namesakes.proofs.Named.{the_row}
 use Rattle.paths.specs.declared.Turn.{Turn}
 use Rattle.paths.specs.declared.Turn.TheVariants.{Answer, Bases, Lists}
 use Rattle.paths.specs.declared.Inner.{Inner}
-use Rattle.paths.specs.declared.Inner.TheVariants.{Both, Neither}
 use Rattle.paths.specs.Steps.{Whole, kind_at, members_of_type, int_and_real, Turned, Turns, ask_named, inner_after, Entered, Inside}
 use Rattle.paths.proofs.Shapes.{leaf_kind, tree_kind, tree_kind_lem, compound_node, array_node, decode_step, whole, formed_compound, formed_array}
 use Rattle.paths.proofs.Rows.{named_formed, row_formed}
@@ -203,23 +201,23 @@ pub ruleset turn_laws = (rules, path_parts, turn_differ, turn_lists, turn_leaves
 
 -- ---- into a member
 
-module _ (ws ts : List ℕ) (s : ℕ) (wd td : List ℕ) (j : ℕ) {r : Found} (hr : NamedIn ws ts (name_at wd td j) (first_word ws s) (rows_word ws s) r) where
+module _ (ws ts : List ℕ) (s : ℕ) (wd td : List ℕ) (j : ℕ) {r : Option ℕ} (hr : NamedIn ws ts (name_at wd td j) (first_word ws s) (rows_word ws s) r) where
   abbrev in_found : (Datatype → Datatype → Bool) → (ℕ → Datatype) → Lookup → Bool
   in_found ask D = on_found (λ o T. ask T (D (member_type_word wd j))) true
 
   row_is : (S : ℕ → Datatype) (z : ℕ) → WellFormedIn z (members_of_type S ws ts s) → r ≡ row_named ws ts (name_at wd td j) (first_word ws s) (rows_word ws s)
   row_is S z formed = the_row ws ts (first_word ws s) (name_at wd td j) S z (rows_word ws s) formed hr
 
-  named_is : (ask : Datatype → Datatype → Bool) (S D : ℕ → Datatype) (z : ℕ) {v : Found} → WellFormedIn z (members_of_type S ws ts s) → r ≡ v
+  named_is : (ask : Datatype → Datatype → Bool) (S D : ℕ → Datatype) (z : ℕ) {v : Option ℕ} → WellFormedIn z (members_of_type S ws ts s) → r ≡ v
       → ask_named ask D (members_of_type S ws ts s) wd td j ≡ in_found ask D (member_found S ws v)
   named_is ask S D z formed e =
       ap (in_found ask D) (member_named_lem ws ts (name_at wd td j) (first_word ws s) S (rows_word ws s) ∙ ap (member_found S ws) (sym (row_is S z formed) ∙ e))
 
-  pub inner_neither : r ≡ Missing → (ask : Datatype → Datatype → Bool) → Inside ask ws ts s wd td j Neither
+  pub inner_neither : r ≡ None → (ask : Datatype → Datatype → Bool) → Inside ask ws ts s wd td j None
   inner_neither e ask f z fs fd = record { is = named_is ask (decode f ws ts) (decode f wd td) z fs e; onward = tt }
 
-  pub inner_both : {m k l : ℕ} → r ≡ At m → Reads (member_type_word ws m) k → Reads (member_type_word wd j) l → (ask : Datatype → Datatype → Bool)
-      → Inside ask ws ts s wd td j (Both k l)
+  pub inner_both : {m k l : ℕ} → r ≡ Some m → Reads (member_type_word ws m) k → Reads (member_type_word wd j) l → (ask : Datatype → Datatype → Bool)
+      → Inside ask ws ts s wd td j (Some (record { source = k; destination = l }))
   inner_both e hk hl ask f z fs fd =
       record {
         is = named_is ask (decode f ws ts) (decode f wd td) z fs e ∙ rw (hk.is, hl.is) refl;
@@ -279,8 +277,8 @@ module _ {ask : Datatype → Datatype → Bool} {asks : Members → Members → 
         destination = rw (hf.is, hn.is) turned.onward.1;
       }
 
-  module _ (first n : ℕ) {r : Inner} (rest : Remains ask asks f ws ts s wd td d first n) (h : 0 < n) (inner : Inside ask ws ts s wd td (first + (n - 1)) r) where
-    entered : {v : Inner} → r ≡ v
+  module _ (first n : ℕ) {r : Option Inner} (rest : Remains ask asks f ws ts s wd td d first n) (h : 0 < n) (inner : Inside ask ws ts s wd td (first + (n - 1)) r) where
+    entered : {v : Option Inner} → r ≡ v
         → Entered ask (decode (f - 1) ws ts) (decode (f - 1) wd td)
         (ask_named ask (decode (f - 1) wd td) (members_of_type (decode (f - 1) ws ts) ws ts s) wd td (first + (n - 1))) v
     entered e =
@@ -288,10 +286,10 @@ module _ {ask : Datatype → Datatype → Bool} {asks : Members → Members → 
         (inner (f - 1) (size_word ws s) rest.source
         (row_formed (decode (f - 1) wd td) wd td (size_word wd d) first n h rest.destination).0)
 
-    pub both_formed : {k l : ℕ} → r ≡ Both k l → WellFormed (decode (f - 1) ws ts k) × WellFormed (decode (f - 1) wd td l)
+    pub both_formed : {p : Inner} → r ≡ Some p → WellFormed (decode (f - 1) ws ts p.source) × WellFormed (decode (f - 1) wd td p.destination)
     both_formed e = (entered e).onward
 
-    module _ {v : Inner} {a : Bool} (e : r ≡ v) (answer : a ≡ inner_after ask (decode (f - 1) ws ts) (decode (f - 1) wd td) v) where
+    module _ {v : Option Inner} {a : Bool} (e : r ≡ v) (answer : a ≡ inner_after ask (decode (f - 1) ws ts) (decode (f - 1) wd td) v) where
       lists_next : ask (decode f ws ts s) (decode f wd td d)
           ≡ a && asks (members_of_type (decode (f - 1) ws ts) ws ts s) (members_at (decode (f - 1) wd td) wd td first (n - 1))
       lists_next =

@@ -19,8 +19,7 @@ use Rattle.datatype.specs.Matches.Match.{unmatched, matched}
 use Rattle.datatype.specs.WellFormed.{WellFormed}
 use Rattle.datatype.proofs.Tests.{within→, same→eq}
 use Rattle.datatype.proofs.Matches.{size_some, size_most, in_range, match_formed}
-use Rattle.table.specs.declared.Found.{Found}
-use Rattle.table.specs.declared.Found.TheVariants.{At, Missing}
+use Rattle.std.specs.Prelude.{Option, Some, None}
 use Rattle.table.specs.Table.{size_word, base_word, first_word, rows_word, offset_word, member_type_word, name_at, members_at, dimensions_at, node, decode, type_at}
 use Rattle.table.specs.Words.{Reads}
 use Rattle.table.specs.Rows.{row_named, member_found}
@@ -37,7 +36,7 @@ use Rattle.paths.proofs.Rows.{cond_push, product_fits, over_gap, over_formed, ov
 
 -- ---- from a destination's row into a source compound
 
-module _ (ws ts : List ℕ) (s : ℕ) (wd td : List ℕ) (j b : ℕ) (kind : kind_at ws s ≡ 3) (here : covers wd j b ≡ true) {r : Found}
+module _ (ws ts : List ℕ) (s : ℕ) (wd td : List ℕ) (j b : ℕ) (kind : kind_at ws s ≡ 3) (here : covers wd j b ≡ true) {r : Option ℕ}
     (hr : NamedIn ws ts (name_at wd td j) (first_word ws s) (rows_word ws s) r) where
   abbrev in_found : (ℕ → Datatype) → ℕ → Lookup → Match
   in_found D c = on_found (λ o T. further o (match_at T (D (member_type_word wd j)) (c - offset_word wd j))) unmatched
@@ -46,7 +45,7 @@ module _ (ws ts : List ℕ) (s : ℕ) (wd td : List ℕ) (j b : ℕ) (kind : kin
   row_is S whole =
       the_row ws ts (first_word ws s) (name_at wd td j) S (size_word ws s) (rows_word ws s) (formed_compound S ws ts s whole kind).1 hr
 
-  named_is : (S D : ℕ → Datatype) (c : ℕ) {v : Found} → Whole S ws ts s → r ≡ v
+  named_is : (S D : ℕ → Datatype) (c : ℕ) {v : Option ℕ} → Whole S ws ts s → r ≡ v
       → match_named D (members_of_type S ws ts s) wd td j c ≡ in_found D c (member_found S ws v)
   named_is S D c whole e =
       ap (in_found D c) (member_named_lem ws ts (name_at wd td j) (first_word ws s) S (rows_word ws s) ∙ ap (member_found S ws) (sym (row_is S whole) ∙ e))
@@ -54,11 +53,11 @@ module _ (ws ts : List ℕ) (s : ℕ) (wd td : List ℕ) (j b : ℕ) (kind : kin
   in_row : (offset_word wd j ≤ b) × (b < row_end wd j)
   in_row = within→ (offset_word wd j) (size_word wd (member_type_word wd j)) b here
 
-  pub named_off : {e : ℕ} → r ≡ Missing → e ≡ row_end wd j → LeadsIn ws ts s wd td j b (Off e)
+  pub named_off : {e : ℕ} → r ≡ None → e ≡ row_end wd j → LeadsIn ws ts s wd td j b (Off e)
   named_off none he S D x y whole formed =
       record { is = λ i l. (omega arith, named_is S D (b + i) whole none); onward = omega (arith, in_row) }
 
-  pub named_on : {m from k l o a : ℕ} → r ≡ At m → Reads (offset_word ws m) from → Reads (member_type_word ws m) k → Reads (member_type_word wd j) l
+  pub named_on : {m from k l o a : ℕ} → r ≡ Some m → Reads (offset_word ws m) from → Reads (member_type_word ws m) k → Reads (member_type_word wd j) l
       → Reads (offset_word wd j) o → a ≡ b - o → LeadsIn ws ts s wd td j b (On from k l a)
   named_on {m} {l = l} {o = o} {a = a} e hf hk hl ho ha S D x y whole formed =
       let in-compound = formed_compound S ws ts s whole kind in
@@ -76,20 +75,20 @@ pub ruleset named_laws = (rules, named_off, named_on)
 -- ---- compounds
 
 module _ (D : ℕ → Datatype) (wd td : List ℕ) (sized : Sized D wd) (ss : Members) (first b : ℕ) where
-  abbrev match_over : Found → Match
-  match_over (At j) = match_named D ss wd td j b
-  match_over Missing = unmatched
+  abbrev match_over : Option ℕ → Match
+  match_over (Some j) = match_named D ss wd td j b
+  match_over None = unmatched
 
   members_match : (n : ℕ) → match_in ss (members_at D wd td first n) b ≡ match_over (row_over wd first n b)
   unfolding members_at row_over match_at
   members_match zero = refl
   members_match (suc n) =
       rw (sized (member_type_word wd (first + n)))
-      (ap (cond (covers wd (first + n) b) (match_over (At (first + n)))) (members_match n)
-      ∙ cond_push match_over (At (first + n)) (row_over wd first n b) (covers wd (first + n) b))
+      (ap (cond (covers wd (first + n) b) (match_over (Some (first + n)))) (members_match n)
+      ∙ cond_push match_over (Some (first + n)) (row_over wd first n b) (covers wd (first + n) b))
 
-module _ (ws ts : List ℕ) (s : ℕ) (wd td : List ℕ) (d b : ℕ) (ks : kind_at ws s ≡ 3) (kd : kind_at wd d ≡ 3) {r : Found} (hr : OverIn wd (first_word wd d) (rows_word wd d) b r) where
-  compound_is : (S D : ℕ → Datatype) (sized : Sized D wd) (c : ℕ) {v : Found} → row_over wd (first_word wd d) (rows_word wd d) c ≡ v
+module _ (ws ts : List ℕ) (s : ℕ) (wd td : List ℕ) (d b : ℕ) (ks : kind_at ws s ≡ 3) (kd : kind_at wd d ≡ 3) {r : Option ℕ} (hr : OverIn wd (first_word wd d) (rows_word wd d) b r) where
+  compound_is : (S D : ℕ → Datatype) (sized : Sized D wd) (c : ℕ) {v : Option ℕ} → row_over wd (first_word wd d) (rows_word wd d) c ≡ v
       → match_at (node S ws ts s) (node D wd td d) c ≡ match_over D wd td sized (members_of_type S ws ts s) (first_word wd d) c v
   unfolding match_at
   compound_is S D sized c e =
@@ -97,7 +96,7 @@ module _ (ws ts : List ℕ) (s : ℕ) (wd td : List ℕ) (d b : ℕ) (ks : kind_
       (members_match D wd td sized (members_of_type S ws ts s) (first_word wd d) c (rows_word wd d)
       ∙ ap (match_over D wd td sized (members_of_type S ws ts s) (first_word wd d) c) e)
 
-  pub compound_off : {first n z e : ℕ} → r ≡ Missing → Reads (first_word wd d) first → Reads (rows_word wd d) n → Reads (size_word wd d) z → GapEnd wd first 0 n b z e
+  pub compound_off : {first n z e : ℕ} → r ≡ None → Reads (first_word wd d) first → Reads (rows_word wd d) n → Reads (size_word wd d) z → GapEnd wd first 0 n b z e
       → Leads ws ts s wd td d b (Off e)
   compound_off {e = e} none hf hn hz gap S D fs fd =
       let clear = rw (hf.is, hn.is) at gap.clear in
@@ -111,10 +110,10 @@ module _ (ws ts : List ℕ) (s : ℕ) (wd td : List ℕ) (d b : ℕ) (ks : kind_
       }
 
   -- the row that is found has the byte
-  pub compound_covers : {j : ℕ} → r ≡ At j → covers wd j b ≡ true
+  pub compound_covers : {j : ℕ} → r ≡ Some j → covers wd j b ≡ true
   compound_covers {j} e = (hr.has j e).2
 
-  pub compound_on : {j : ℕ} {v : Walk} → r ≡ At j → LeadsIn ws ts s wd td j b v → Leads ws ts s wd td d b v
+  pub compound_on : {j : ℕ} {v : Walk} → r ≡ Some j → LeadsIn ws ts s wd td j b v → Leads ws ts s wd td d b v
   compound_on {j} {v} e leads S D fs fd =
       let formed = (formed_compound D wd td d fd kd).1 in
       let row = sym (the_row_over D wd td (size_word wd d) (first_word wd d) fd.sized (rows_word wd d) b formed hr) ∙ e in

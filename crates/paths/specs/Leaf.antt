@@ -1,19 +1,17 @@
 -- The leaves and the matches that type numbers stand for, of half a table w beside its text t.
-use Rattle.std.specs.Prelude.{◌≡◌, List, ℕ, ◌+◌, ◌≤◌, ◌<◌}
-use Rattle.std.proofs.Math.Option.{Option, none, some}
+use Rattle.std.specs.Prelude.{Option, Some, None, ◌≡◌, List, ℕ, ◌+◌, ◌≤◌, ◌<◌}
+use Rattle.std.proofs.Math.Option.{Option as MathOption, none, some}
 use Rattle.datatype.specs.Datatype.{Leaf, Datatype, size}
 use Rattle.datatype.specs.Matches.{Match, match_at}
 use Rattle.datatype.specs.Matches.Match.{unmatched, matched}
 unfoldable pub use Rattle.table.specs.Table.{leaf_of_type}
-use Rattle.table.specs.declared.Found.{Found}
-use Rattle.table.specs.declared.Found.TheVariants.{At, Missing}
 use Rattle.table.specs.Table.{type_at}
 use Rattle.paths.specs.declared.Pair.{Pair}
 use Rattle.paths.specs.declared.Pair.TheVariants.{Matched, Unmatched}
 
-abbrev pub leaf_found : List ℕ → List ℕ → Found → Option Leaf
-leaf_found w t (At k) = some (leaf_of_type w t k)
-leaf_found w t Missing = none
+abbrev pub leaf_found : List ℕ → List ℕ → Option ℕ → MathOption Leaf
+leaf_found w t (Some k) = some (leaf_of_type w t k)
+leaf_found w t None = none
 
 abbrev pub match_of : List ℕ → List ℕ → List ℕ → List ℕ → Pair → Match
 match_of ws ts wd td (Matched a s d) = matched a (leaf_of_type ws ts s) (leaf_of_type wd td d)

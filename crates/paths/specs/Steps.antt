@@ -1,14 +1,12 @@
 -- What the functions inside the crate promise, a step of a walk each. No public contract cites this file.
-use Rattle.std.specs.Prelude.{ℕ, zero, suc, ◌+◌, ◌-◌, ◌≤◌, ◌<◌, ◌≡◌, List, Bool, true, false, cond, ◌⊎◌, eqb}
-use Rattle.std.proofs.Math.Option.{Option, none, some}
+use Rattle.std.specs.Prelude.{Option, Some, None, ℕ, zero, suc, ◌+◌, ◌-◌, ◌≤◌, ◌<◌, ◌≡◌, List, Bool, true, false, cond, ◌⊎◌, eqb}
+use Rattle.std.proofs.Math.Option.{Option as MathOption, none, some}
 use Rattle.datatype.specs.Datatype.{Leaf, Datatype, Members, size}
 use Rattle.datatype.specs.Leaves.{within, leaf_at}
 use Rattle.datatype.specs.Paths.{on_found, member_named}
 use Rattle.datatype.specs.Matches.{Match, further, match_at}
 use Rattle.datatype.specs.Matches.Match.{unmatched, matched}
 use Rattle.datatype.specs.WellFormed.{WellFormed, WellFormedIn}
-use Rattle.table.specs.declared.Found.{Found}
-use Rattle.table.specs.declared.Found.TheVariants.{At, Missing}
 use Rattle.table.specs.Table.{class_word, size_word, first_word, rows_word, offset_word, member_type_word, name_at, members_at, node, decode}
 use Rattle.paths.specs.declared.Step.{Step}
 use Rattle.paths.specs.declared.Step.TheVariants.{Go, Here, Gone}
@@ -17,7 +15,6 @@ use Rattle.paths.specs.declared.Walk.TheVariants.{On, Same, Off}
 use Rattle.paths.specs.declared.Turn.{Turn}
 use Rattle.paths.specs.declared.Turn.TheVariants.{Answer, Bases, Lists}
 use Rattle.paths.specs.declared.Inner.{Inner}
-use Rattle.paths.specs.declared.Inner.TheVariants.{Both, Neither}
 use Rattle.paths.specs.Leaf.{leaf_of_type}
 
 -- ---- types
@@ -45,14 +42,14 @@ abbrev pub covers : List ℕ → ℕ → ℕ → Bool
 covers w j b = within (offset_word w j) (size_word w (member_type_word w j)) b
 
 -- of the n rows from first on, the newest whose member has byte b
-unfoldable pub row_over : List ℕ → ℕ → ℕ → ℕ → Found
-row_over w first zero b = Missing
-row_over w first (suc n) b = cond (covers w (first + n) b) (At (first + n)) (row_over w first n b)
+unfoldable pub row_over : List ℕ → ℕ → ℕ → ℕ → Option ℕ
+row_over w first zero b = None
+row_over w first (suc n) b = cond (covers w (first + n) b) (Some (first + n)) (row_over w first n b)
 
 -- r is one of the n rows from first on, and its member has byte b; or no member has it. Where members do not overlap, that is the row that row_over finds
-pub record OverIn (w : List ℕ) (first n b : ℕ) (r : Found) : Type 0 where
-  pub has : (j : ℕ) → r ≡ At j → (first ≤ j) × (j < first + n) × (covers w j b ≡ true)
-  pub none : r ≡ Missing → row_over w first n b ≡ Missing
+pub record OverIn (w : List ℕ) (first n b : ℕ) (r : Option ℕ) : Type 0 where
+  pub has : (j : ℕ) → r ≡ Some j → (first ≤ j) × (j < first + n) × (covers w j b ≡ true)
+  pub none : r ≡ None → row_over w first n b ≡ None
 
 -- where the member in row j ends
 abbrev pub row_end : List ℕ → ℕ → ℕ
@@ -77,7 +74,7 @@ members_of_type D w t i = members_at D w t (first_word w i) (rows_word w i)
 -- ---- leaves
 
 -- the leaf that a step leads to; x is the leaf here
-abbrev pub leaf_after : (ℕ → Datatype) → Leaf → Step → Option Leaf
+abbrev pub leaf_after : (ℕ → Datatype) → Leaf → Step → MathOption Leaf
 leaf_after D x (Go k b) = leaf_at (D k) b
 leaf_after D x Here = some x
 leaf_after D x Gone = none
@@ -157,20 +154,20 @@ Turns ask asks ws ts s wd td d r =
 abbrev pub ask_named : (Datatype → Datatype → Bool) → (ℕ → Datatype) → Members → List ℕ → List ℕ → ℕ → Bool
 ask_named ask D ss wd td j = on_found (λ o T. ask T (D (member_type_word wd j))) true (member_named (name_at wd td j) ss)
 
-abbrev pub inner_after : (Datatype → Datatype → Bool) → (ℕ → Datatype) → (ℕ → Datatype) → Inner → Bool
-inner_after ask S D (Both k l) = ask (S k) (D l)
-inner_after ask S D Neither = true
+abbrev pub inner_after : (Datatype → Datatype → Bool) → (ℕ → Datatype) → (ℕ → Datatype) → Option Inner → Bool
+inner_after ask S D (Some r) = ask (S r.source) (D r.destination)
+inner_after ask S D None = true
 
-abbrev pub Inward : (ℕ → Datatype) → (ℕ → Datatype) → Inner → Type 0
-Inward S D (Both k l) = WellFormed (S k) × WellFormed (D l)
-Inward S D Neither = Unit {0}
+abbrev pub Inward : (ℕ → Datatype) → (ℕ → Datatype) → Option Inner → Type 0
+Inward S D (Some r) = WellFormed (S r.source) × WellFormed (D r.destination)
+Inward S D None = Unit {0}
 
-pub record Entered (ask : Datatype → Datatype → Bool) (S D : ℕ → Datatype) (a : Bool) (r : Inner) : Type 0 where
+pub record Entered (ask : Datatype → Datatype → Bool) (S D : ℕ → Datatype) (a : Bool) (r : Option Inner) : Type 0 where
   pub is : a ≡ inner_after ask S D r
   pub onward : Inward S D r
 
 -- the types that r says, to any depth f
-abbrev pub Inside : (Datatype → Datatype → Bool) → List ℕ → List ℕ → ℕ → List ℕ → List ℕ → ℕ → Inner → Type 0
+abbrev pub Inside : (Datatype → Datatype → Bool) → List ℕ → List ℕ → ℕ → List ℕ → List ℕ → ℕ → Option Inner → Type 0
 Inside ask ws ts s wd td j r =
     (f z : ℕ) → WellFormedIn z (members_of_type (decode f ws ts) ws ts s) → WellFormed (decode f wd td (member_type_word wd j))
     → Entered ask (decode f ws ts) (decode f wd td) (ask_named ask (decode f wd td) (members_of_type (decode f ws ts) ws ts s) wd td j) r

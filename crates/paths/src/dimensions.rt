@@ -22,15 +22,13 @@ fn dimensions_at(half: &[u32], type_number: usize) -> [u32; 4]
 fn are_equal(a: [u32; 4], b: [u32; 4]) -> bool
     ensures { result ≡ same_dimensions (up_to_zero a) (up_to_zero b) }
 {
-    let mut q: usize = 0;
-    while q < RANKS {
+    for q in 0..RANKS {
         if a[q] != b[q] {
             return false;
         }
         if a[q] == 0 {
             return true;
         }
-        q += 1;
     }
     true
 }

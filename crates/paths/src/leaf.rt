@@ -9,9 +9,7 @@ use crate::Step;
 use crate::numbers::{minus, remainder};
 use crate::types::{kind_at, row_over};
 use table::read::{row_word, type_word};
-use table::{
-    ARRAY, BASE, COMPOUND, FIRST, Found, MEMBER_OFFSET, MEMBER_TYPE, MOST_TYPES, ROWS, SIZE,
-};
+use table::{ARRAY, BASE, COMPOUND, FIRST, MEMBER_OFFSET, MEMBER_TYPE, MOST_TYPES, ROWS, SIZE};
 
 fn leaf_step(half: &[u32], type_number: usize, byte: usize) -> Step
     ensures { LeafStep half.now type_number byte result }
@@ -21,11 +19,11 @@ fn leaf_step(half: &[u32], type_number: usize, byte: usize) -> Step
         let first = type_word(half, type_number, FIRST);
         let n = type_word(half, type_number, ROWS);
         match row_over(half, first, n, byte) {
-            Found::At(j) => Step::Go(
+            Some(j) => Step::Go(
                 row_word(half, j, MEMBER_TYPE),
                 minus(byte, row_word(half, j, MEMBER_OFFSET)),
             ),
-            Found::Missing => Step::Gone,
+            None => Step::Gone,
         }
     } else if kind == ARRAY {
         let z = type_word(half, type_number, SIZE);
@@ -44,26 +42,24 @@ fn leaf_step(half: &[u32], type_number: usize, byte: usize) -> Step
 }
 
 // The number of the type of the leaf that starts at this byte of a type.
-pub fn leaf_at(half: &[u32], type_number: usize, byte: usize) -> Found
+pub fn leaf_at(half: &[u32], type_number: usize, byte: usize) -> Option<usize>
     ensures { (t : List ℕ) → leaf_found half.now t result ≡ leaf_at (type_at half.now t type_number) byte }
 {
     let mut k = type_number;
     let mut at = byte;
-    let mut left: usize = MOST_TYPES;
-    while 0 < left {
+    for _ in 0..MOST_TYPES {
         match leaf_step(half, k, at) {
             Step::Go(inner, inner_byte) => {
                 k = inner;
                 at = inner_byte;
             }
             Step::Here => {
-                return Found::At(k);
+                return Some(k);
             }
             Step::Gone => {
-                return Found::Missing;
+                return None;
             }
         }
-        left -= 1;
     }
-    Found::Missing
+    None
 }

@@ -30,6 +30,7 @@ pub enum Walk {
 
 // The match of a destination leaf: the source leaf's byte, the source leaf's type number and the destination leaf's; or how many bytes from here on have
 // no match.
+// An enum, and no Result, which is no plainer: both sides carry what a caller goes on with, and neither is a fault.
 #[derive(Clone, Copy)]
 pub enum Pair {
     Matched(usize, usize, usize),
@@ -44,9 +45,9 @@ pub enum Turn {
     Lists,
 }
 
-// The types of the source member and of the destination member of one name, or none where the source has no such member.
+// The types of the source member and of the destination member of one name.
 #[derive(Clone, Copy)]
-pub enum Inner {
-    Both(usize, usize),
-    Neither,
+pub struct Inner {
+    pub source: usize,
+    pub destination: usize,
 }

@@ -8,7 +8,7 @@ use crate::Inner;
 use crate::numbers::{minus, quotient};
 use namesakes::namesake;
 use table::read::{row_word, type_word};
-use table::{CLASS, CLASSES, FIRST, Found, INT, MEMBER_OFFSET, MEMBER_TYPE, ROWS, SIZE};
+use table::{CLASS, CLASSES, FIRST, INT, MEMBER_OFFSET, MEMBER_TYPE, ROWS, SIZE};
 
 // How many rows near a place are looked at before all are.
 const NEAR: usize = 16;
@@ -27,37 +27,33 @@ fn row_covers(half: &[u32], row: usize, byte: usize) -> bool
 }
 
 // Of the n rows from first on, the newest whose member has the byte.
-pub fn row_over(half: &[u32], first: usize, n: usize, byte: usize) -> Found
+pub fn row_over(half: &[u32], first: usize, n: usize, byte: usize) -> Option<usize>
     requires { (first < 4294967296) × (n < 4294967296) }
     ensures { result ≡ row_over half.now first n byte }
 {
-    let mut left = n;
-    while 0 < left {
-        left -= 1;
-        let j = first + left;
+    for i in (0..n).rev() {
+        let j = first + i;
         if row_covers(half, j, byte) {
-            return Found::At(j);
+            return Some(j);
         }
     }
-    Found::Missing
+    None
 }
 
 // Of the n rows from first on, one whose member has the byte. Rows near `place` among them are looked at first, as if members stood in the order of their
 // offsets; where none of these has it, all are.
-fn row_near(half: &[u32], first: usize, n: usize, place: usize, byte: usize) -> Found
+fn row_near(half: &[u32], first: usize, n: usize, place: usize, byte: usize) -> Option<usize>
     requires { (first < 4294967296) × (n < 4294967296) }
     ensures { OverIn half.now first n byte result }
 {
     let mut at = place;
-    let mut left: usize = NEAR;
-    while 0 < left {
-        left -= 1;
+    for _ in 0..NEAR {
         if n <= at {
             return row_over(half, first, n, byte);
         }
         let j = first + at;
         if row_covers(half, j, byte) {
-            return Found::At(j);
+            return Some(j);
         }
         if byte < row_word(half, j, MEMBER_OFFSET) {
             at = minus(at, 1);
@@ -69,7 +65,7 @@ fn row_near(half: &[u32], first: usize, n: usize, place: usize, byte: usize) -> 
 }
 
 // The row of a compound whose member has the byte. Where members have one size and the order of their offsets, the first one that is looked at has it.
-pub fn row_with_byte(half: &[u32], type_number: usize, byte: usize) -> Found
+pub fn row_with_byte(half: &[u32], type_number: usize, byte: usize) -> Option<usize>
     requires { byte < size_word half.now type_number }
     ensures { OverIn half.now (first_word half.now type_number) (rows_word half.now type_number) byte result }
 {
@@ -107,17 +103,15 @@ pub fn gap_end(half: &[u32], first: usize, n: usize, byte: usize, end: usize) ->
     requires { (first < 4294967296) × (n < 4294967296) × (byte < end) }
     ensures { GapEnd half.now first 0 n byte end result }
 {
-    let mut left = n;
     let mut at = end;
-    while 0 < left {
-        left -= 1;
-        let o = row_word(half, first + left, MEMBER_OFFSET);
+    for i in (0..n).rev() {
+        let o = row_word(half, first + i, MEMBER_OFFSET);
         at = nearer(byte, o, at);
     }
     at
 }
 
-// The types of the destination's member in the row and of the member of its name in the source compound.
+// The types of the destination's member in the row and of the member of its name in the source compound, where it has one.
 pub fn inner_types(
     source_half: &[u32],
     source_sheet: &[u8],
@@ -125,23 +119,21 @@ pub fn inner_types(
     destination_half: &[u32],
     destination_sheet: &[u8],
     row: usize,
-) -> Inner
+) -> Option<Inner>
     ensures { (ask : Datatype → Datatype → Bool) → Inside ask source_half.now source_sheet.now source_type destination_half.now destination_sheet.now row result }
 {
-    match namesake(
+    let m = namesake(
         source_half,
         source_sheet,
         source_type,
         destination_half,
         destination_sheet,
         row,
-    ) {
-        Found::At(m) => Inner::Both(
-            row_word(source_half, m, MEMBER_TYPE),
-            row_word(destination_half, row, MEMBER_TYPE),
-        ),
-        Found::Missing => Inner::Neither,
-    }
+    )?;
+    Some(Inner {
+        source: row_word(source_half, m, MEMBER_TYPE),
+        destination: row_word(destination_half, row, MEMBER_TYPE),
+    })
 }
 
 // The kind of a type: 0 int, 1 bits, 2 enum, 3 compound, 4 array, 5 real.

@@ -52,8 +52,7 @@ fn move_each(
     requires { (bytes ≤ 16) × (source_byte + bytes ≤ source_size) × (destination_byte + bytes ≤ destination_size) × (count * source_size ≤ length src.now) × (count * destination_size ≤ length dst.old) }
     ensures { dst.new ≡ each_piece bytes destination_byte source_byte source_size destination_size src.now count dst.old }
 {
-    let mut i: usize = 0;
-    while i < count {
+    for i in 0..count {
         move_bytes(
             &src[i * source_size..],
             source_byte,
@@ -61,7 +60,6 @@ fn move_each(
             destination_byte,
             bytes,
         );
-        i += 1;
     }
 }
 
@@ -177,6 +175,7 @@ pub fn piece_column(
     ensures { dst.new ≡ each_piece bytes destination_byte source_byte source_size destination_size src.now count dst.old }
 {
     let mut k: usize = 0;
+    // A piece goes in moves of 16, 8, 4.. bytes: no range has these steps.
     while k < bytes {
         let n = next_bytes(bytes - k);
         move_column(

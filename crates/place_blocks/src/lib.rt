@@ -70,6 +70,7 @@ fn plain_up(
     let whole = is_whole(count, plan, entries, destination_size, destination_half);
     let mut raised: u64 = 0;
     let mut i: usize = 0;
+    // A step is a block, of which the last may be shorter: a range with a step would say that no more plainly.
     while i < count {
         let k = least(at_once, count - i);
         raised += replace_block(
@@ -123,6 +124,7 @@ fn plain_down(
     let whole = is_whole(count, plan, entries, destination_size, destination_half);
     let mut raised: u64 = 0;
     let mut i = count;
+    // How many records come next hangs on where they stand: no range has these steps.
     while 0 < i {
         let k = last_records(i, at_once, source_size, destination_size);
         i -= k;

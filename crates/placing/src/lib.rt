@@ -15,11 +15,11 @@ pub fn raw_at(s: &[u8], at: ByteAt, l: Layout) -> u64
     requires { Valid l × (at.0 + l.size.0 ≤ length s.now) }
     ensures { (result ≡ raw_at l at.0 s.now) × (result < 2 ^ l.precision) }
 {
-    let order = l.order;
     if WINDOW.0 <= s.len() - at.0 {
-        return window(s, at, l.size, order, l.offset, l.precision);
+        window(s, at, l.size, l.order, l.offset, l.precision)
+    } else {
+        field_of(load(s, at, l.size, l.order), l.offset, l.precision)
     }
-    field_of(load(s, at, l.size, order), l.offset, l.precision)
 }
 
 // width bits beside the significant ones.
@@ -41,10 +41,8 @@ fn fill(l: Layout, g: u64, raw: u64) -> u64
 {
     let end = l.offset.0 + l.precision;
     let whole = bits_of(l.size);
-    let lsb = l.lsb;
-    let msb = l.msb;
-    let low = pad_bits(lsb, l.offset.0, low_bits(g, l.offset.0));
-    let high = pad_bits(msb, whole.0 - end, shift_right(g, end));
+    let low = pad_bits(l.lsb, l.offset.0, low_bits(g, l.offset.0));
+    let high = pad_bits(l.msb, whole.0 - end, shift_right(g, end));
     join(high, end, join(raw, l.offset.0, low))
 }
 
@@ -53,13 +51,10 @@ pub fn store(d: &mut [u8], at: ByteAt, l: Layout, raw: u64)
     requires { Valid l × (at.0 + l.size.0 ≤ length d.old) × (raw < 2 ^ l.precision) }
     ensures { d.new ≡ stored l at.0 raw d.old }
 {
-    let order = l.order;
-    if l.offset.0 == 0 {
-        if l.precision == bits_of(l.size).0 {
-            storing::store(d, at, l.size, order, raw);
-            return;
-        }
-    }
-    let g = load(d, at, l.size, order);
-    storing::store(d, at, l.size, order, fill(l, g, raw));
+    let container = if l.offset.0 == 0 && l.precision == bits_of(l.size).0 {
+        raw
+    } else {
+        fill(l, load(d, at, l.size, l.order), raw)
+    };
+    storing::store(d, at, l.size, l.order, container);
 }

@@ -37,11 +37,8 @@ fn is_same_type(half: &[u32], x: usize, y: usize) -> bool
     if x == y {
         return true;
     }
-    let mut k: usize = 0;
-    while k < TYPE_WORDS {
-        if type_word(half, x, k) == type_word(half, y, k) {
-            k += 1;
-        } else {
+    for k in 0..TYPE_WORDS {
+        if type_word(half, x, k) != type_word(half, y, k) {
             return false;
         }
     }
@@ -85,9 +82,8 @@ fn all_come_again(
     requires { (2 * entries ≤ length plan.now) × (entries ≤ 4096) × (part_entries ≤ entries) }
     ensures { result ≡ true → Repeats plan.now part_entries source_part destination_part source_half.now destination_half.now entries }
 {
-    let mut i: usize = 0;
-    while i + part_entries < entries {
-        if comes_again(
+    for i in 0..entries - part_entries {
+        if !comes_again(
             plan,
             i,
             part_entries,
@@ -96,8 +92,6 @@ fn all_come_again(
             source_half,
             destination_half,
         ) {
-            i += 1;
-        } else {
             return false;
         }
     }
@@ -136,9 +130,8 @@ fn all_lie_in_part(
     requires { (2 * part_entries ≤ length plan.now) × (part_entries ≤ 4096) }
     ensures { result ≡ true → AllLie plan.now source_part destination_part source_half.now destination_half.now part_entries }
 {
-    let mut i: usize = 0;
-    while i < part_entries {
-        if lies_in_part(
+    for i in 0..part_entries {
+        if !lies_in_part(
             plan,
             i,
             source_part,
@@ -146,8 +139,6 @@ fn all_lie_in_part(
             source_half,
             destination_half,
         ) {
-            i += 1;
-        } else {
             return false;
         }
     }
@@ -203,8 +194,7 @@ pub fn parts_of(
     requires { (words : List ℕ) × Ready source_size destination_size plan.now entries source_half.now destination_half.now words }
     ensures { InParts result (source_size / result) (destination_size / result) (entries / result) source_size destination_size plan.now entries source_half.now destination_half.now }
 {
-    let mut e: usize = 1;
-    while 2 * e <= entries {
+    for e in 1..=entries / 2 {
         if entries % e == 0 {
             let parts = entries / e;
             if are_parts(
@@ -219,7 +209,6 @@ pub fn parts_of(
                 return parts;
             }
         }
-        e += 1;
     }
     1
 }

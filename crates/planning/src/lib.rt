@@ -84,6 +84,7 @@ pub fn plan(
     let bytes = type_word(destination_half, destination_type, SIZE);
     let mut entries: usize = 0;
     let mut destination_byte: usize = 0;
+    // A step is as long as the leaf that was found: no range has these steps.
     while destination_byte < bytes {
         let m = match_at(
             source_half,
@@ -139,6 +140,7 @@ pub fn stop_plan(
     let bytes = type_word(destination_half, destination_type, SIZE);
     let mut entries: usize = 0;
     let mut byte: usize = 0;
+    // A step is as long as the leaf that was found: no range has these steps.
     while byte < bytes {
         let found = match_at(
             source_half,

@@ -6,12 +6,13 @@ use Prim.Native.Nat.{ℕ, zero, suc, ◌+◌, ◌*◌, ◌-◌, ◌/◌, ◌%◌
 use native.Mathlib.Nat.{eq-or-lt_of_le, le_refl}
 use native.Mathlib.Omega.{arith}
 use lib.ListN.{length, get_or}
+use Rattle.std.specs.Prelude.{Some, None}
 use Rattle.answer.specs.declared.Given.{Given}
 use Rattle.number.specs.Place.{stored}
 use Rattle.table.specs.Table.{layout_at}
 use Rattle.table.specs.Words.{Reads}
 use Rattle.plans.specs.declared.PlanEntry.{PlanEntry}
-use Rattle.plans.specs.declared.Raising.TheVariants.{At, Nowhere}
+use Rattle.plans.specs.declared.LeafException.{LeafException}
 use Rattle.records.specs.Leaf.{number_in, given_of}
 use Rattle.records.proofs.OneLeaf.{given_matched}
 use Rattle.records.specs.Record.{raises}
@@ -113,6 +114,9 @@ module _ (s d : ℕ) (plan : List ℕ) (n : ℕ) (ws wd words : List ℕ) (p : R
 
 -- ---- the first that raises
 
+abbrev pub leaf_exception : ℕ → ℕ → Given → LeafException
+leaf_exception b kind given = record { byte = b; kind = kind; given = given }
+
 module _ (s d : ℕ) (plan : List ℕ) (n : ℕ) (ws wd words : List ℕ) (p : Ready s d plan n ws wd words) (src : List ℕ) where
   -- none of the entries before i raises
   abbrev rest : ℕ → List Entry
@@ -140,7 +144,7 @@ module _ (s d : ℕ) (plan : List ℕ) (n : ℕ) (ws wd words : List ℕ) (p : R
   pub first_found : (i kind : ℕ) {e : PlanEntry} {given : Given} → i < n → first_by (entries_of p) src ≡ first_by (rest i) src → e ≡ words_at plan i
       → ((q : Pair e.source e.destination ws wd words (words_place i)) → kind ≡ (pair_becomes q e.from src).kind) → (kind ≡ 0 → ⊥)
       → ((ts : List ℕ) → given ≡ given_of (leaf_of_type ws ts e.source) (number_in (leaf_of_type ws ts e.source) e.from src))
-      → At e.to kind given ≡ raising_of (first_by (entries_of p) src)
+      → Some (leaf_exception e.to kind given) ≡ raising_of (first_by (entries_of p) src)
   first_found i kind {e} {given} h first q leaf z named = rw (first, first_here i kind h q leaf) (go kind z)
     where
       same : given ≡ (becomes (here i) src).given
@@ -148,11 +152,11 @@ module _ (s d : ℕ) (plan : List ℕ) (n : ℕ) (ws wd words : List ℕ) (p : R
           (rw q at named) p.source_text
           ∙ sym (given_matched (here i).source (here i).destination (number_in (here i).source (here i).from src))
 
-      go : (k : ℕ) → (k ≡ 0 → ⊥) → At e.to k given ≡ raising_of (or_else e.to k (becomes (here i) src).given (first_by (rest (i + 1)) src))
+      go : (k : ℕ) → (k ≡ 0 → ⊥) → Some (leaf_exception e.to k given) ≡ raising_of (or_else e.to k (becomes (here i) src).given (first_by (rest (i + 1)) src))
       go zero f = absurd (f refl)
       go (suc k) f = rw same
 
-  pub first_end : (i : ℕ) → n ≤ i → first_by (entries_of p) src ≡ first_by (rest i) src → Nowhere ≡ raising_of (first_by (entries_of p) src)
+  pub first_end : (i : ℕ) → n ≤ i → first_by (entries_of p) src ≡ first_by (rest i) src → None ≡ raising_of (first_by (entries_of p) src)
   unfolding first_by
   first_end i h first = rw (first, entries_end plan ws p.source_text wd p.destination_text n i h)
 

@@ -30,8 +30,7 @@ use Rattle.datatype.specs.Datatype.Leaf.{atomic, enumeration, real}
 use Rattle.datatype.specs.Symbols.{on_some, number_of}
 use Rattle.datatype.specs.WellFormed.{WellFormedLeaf, Symbols}
 use Rattle.datatype.proofs.Ways.{valid}
-use Rattle.table.specs.declared.Found.{Found}
-use Rattle.table.specs.declared.Found.TheVariants.{At, Missing}
+use Rattle.std.specs.Prelude.{Option, Some, None}
 use Rattle.table.specs.Table.{row_word, class_word, first_word, rows_word, flag_of, layout_at, name_at, value_at, symbols_at}
 use Rattle.table.specs.Words.{Reads}
 use Rattle.table.specs.Rows.{row_named, row_numbered, value_found, name_found}
@@ -139,12 +138,12 @@ module _ (words : List ℕ) (k raw : ℕ) {low : ℕ} (rl : Reads (get_or words 
 -- ---- a row by ids
 
 module _ (words : List ℕ) (id first : ℕ) where
-  pub alike_none : (n : ℕ) → n ≤ 0 → row_alike words id first n ≡ Missing
+  pub alike_none : (n : ℕ) → n ≤ 0 → row_alike words id first n ≡ None
   unfolding row_alike
   alike_none zero h = refl
   alike_none (suc n) h = absurd (not-suc-le-zero h)
 
-  pub alike_hit : (n : ℕ) {x : ℕ} → 0 < n → Reads (get_or words (256 + (first + (n - 1))) 0) x → x ≡ id → row_alike words id first n ≡ At (first + (n - 1))
+  pub alike_hit : (n : ℕ) {x : ℕ} → 0 < n → Reads (get_or words (256 + (first + (n - 1))) 0) x → x ≡ id → row_alike words id first n ≡ Some (first + (n - 1))
   unfolding row_alike
   alike_hit zero h r e = absurd (not-suc-le-zero h)
   alike_hit (suc n) h r e =
@@ -163,12 +162,12 @@ pub alike_read : (words wd : List ℕ) (j d : ℕ) {id first rows r : ℕ} → R
     → r ≡ row_code (row_alike words id first rows) → r ≡ row_code (row_alike words (get_or words j 0) (first_word wd d) (rows_word wd d))
 alike_read words wd j d ri rf rr h = h ∙ rw (ri.is, rf.is, rr.is)
 
-pub looked_found : (words ws wd : List ℕ) (z : ℤ) (s d : ℕ) {first rows j r : ℕ} {f : Found} → Reads (first_word ws s) first → (rows ≡ symbol_rows ws s) × (rows < 4294967296)
-    → f ≡ row_numbered ws z first rows → f ≡ At j → r ≡ row_code (row_alike words (get_or words j 0) (first_word wd d) (rows_word wd d)) → r ≡ looked_code words ws wd s d z
+pub looked_found : (words ws wd : List ℕ) (z : ℤ) (s d : ℕ) {first rows j r : ℕ} {f : Option ℕ} → Reads (first_word ws s) first → (rows ≡ symbol_rows ws s) × (rows < 4294967296)
+    → f ≡ row_numbered ws z first rows → f ≡ Some j → r ≡ row_code (row_alike words (get_or words j 0) (first_word wd d) (rows_word wd d)) → r ≡ looked_code words ws wd s d z
 looked_found words ws wd z s d rf rr e q h = rw (← rf.is, ← rr.0, ← e, q) h
 
-pub looked_missing : (words ws wd : List ℕ) (z : ℤ) (s d : ℕ) {first rows : ℕ} {f : Found} → Reads (first_word ws s) first → (rows ≡ symbol_rows ws s) × (rows < 4294967296)
-    → f ≡ row_numbered ws z first rows → f ≡ Missing → 0 ≡ looked_code words ws wd s d z
+pub looked_missing : (words ws wd : List ℕ) (z : ℤ) (s d : ℕ) {first rows : ℕ} {f : Option ℕ} → Reads (first_word ws s) first → (rows ≡ symbol_rows ws s) × (rows < 4294967296)
+    → f ≡ row_numbered ws z first rows → f ≡ None → 0 ≡ looked_code words ws wd s d z
 looked_missing words ws wd z s d rf rr e q = rw (← rf.is, ← rr.0, ← e, q)
 
 -- ---- a number in range keeps its bits
@@ -199,21 +198,21 @@ module _ (ws ts wd td : List ℕ) (s d : ℕ) (formed : WellFormedLeaf (leaf_of_
   listed : Symbols (layout_at wd d) names
   listed = (subst WellFormedLeaf (leaf_enum wd td d enum) formed).symbols
 
-  code_names : (g : Given) (x : List ℕ) (o : Found) → row_named wd td x (first_word wd d) (rows_word wd d) ≡ o
+  code_names : (g : Given) (x : List ℕ) (o : Option ℕ) → row_named wd td x (first_word wd d) (rows_word wd d) ≡ o
       → Agrees (code_bits wd (layout_at wd d).precision (row_code o)) (on_some (translated_to (layout_at wd d) g) (untranslated (layout_at wd d) g) (value_found wd o))
-  code_names g x (At i) q =
+  code_names g x (Some i) q =
       let e = inside_bits (layout_at wd d) (value_at wd i)
       (listed_in_range (layout_at wd d) names x (value_at wd i) listed (symbol_named wd td x (first_word wd d) (rows_word wd d) ∙ rw q)) in
       rw add-one (ap (λ (f : Fitted). f.raw) e, ap (λ (f : Fitted). f.kind) e)
-  code_names g x Missing q = (refl, refl)
+  code_names g x None q = (refl, refl)
 
-  found_names : (g : Given) (o : Found)
+  found_names : (g : Given) (o : Option ℕ)
       → Agrees (code_bits wd (layout_at wd d).precision (named_code ws ts wd td d o))
       (on_some (translated_to (layout_at wd d) g) (untranslated (layout_at wd d) g) (on_some (λ x. number_of x names) none (name_found ws ts o)))
-  found_names g (At j) =
+  found_names g (Some j) =
       rw (symbol_named wd td (name_at ws ts j) (first_word wd d) (rows_word wd d))
       (code_names g (name_at ws ts j) (row_named wd td (name_at ws ts j) (first_word wd d) (rows_word wd d)) refl)
-  found_names g Missing = (refl, refl)
+  found_names g None = (refl, refl)
 
   -- the row that the words lead to, as significant bits, is what the definition makes of the number
   pub enum_converted : (raw : ℕ)

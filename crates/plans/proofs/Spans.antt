@@ -23,8 +23,7 @@ use Rattle.number.proofs.RoundTrip.{fitted_lt, fitted_back}
 use Rattle.datatype.specs.Symbols.{same_number}
 use Rattle.datatype.specs.WellFormed.{WellFormedLeaf, Symbols}
 use Rattle.datatype.proofs.Tests.{sameNumber→eq, sameNumber_refl}
-use Rattle.table.specs.declared.Found.{Found}
-use Rattle.table.specs.declared.Found.TheVariants.{At, Missing}
+use Rattle.std.specs.Prelude.{Option, Some, None}
 use Rattle.table.specs.Table.{row_word, class_word, first_word, rows_word, flag_of, layout_at, bytes_at, name_at, value_at, symbols_at}
 use Rattle.table.specs.Words.{Reads}
 use Rattle.table.specs.Records.{order_code}
@@ -43,24 +42,24 @@ use Rattle.plans.proofs.LeafSteps.{leaf_enum, leaf_valid, inside_bits}
 
 -- ---- the row that was found
 
-numbered_value : (w : List ℕ) (z : ℤ) (first n j : ℕ) → row_numbered w z first n ≡ At j → value_at w j ≡ z
+numbered_value : (w : List ℕ) (z : ℤ) (first n j : ℕ) → row_numbered w z first n ≡ Some j → value_at w j ≡ z
 unfolding row_numbered
 numbered_value w z first zero j e = let no : ◌≡◌ {A = ℕ} 0 1 = cc in absurd (omega arith)
 numbered_value w z first (suc n) j e = go (numbered_value w z first n j) (same_number z (value_at w (first + n))) refl e
   where
-    go : (row_numbered w z first n ≡ At j → value_at w j ≡ z) → (b : Bool) → same_number z (value_at w (first + n)) ≡ b
-        → cond b (At (first + n)) (row_numbered w z first n) ≡ At j → value_at w j ≡ z
+    go : (row_numbered w z first n ≡ Some j → value_at w j ≡ z) → (b : Bool) → same_number z (value_at w (first + n)) ≡ b
+        → cond b (Some (first + n)) (row_numbered w z first n) ≡ Some j → value_at w j ≡ z
     go later true q h =
         let i : first + n ≡ j = cc in
         rw (← i) (sym (sameNumber→eq z (value_at w (first + n)) q))
     go later false q h = later h
 
-pub row_small : (w t x : List ℕ) (k : ℕ) {first n j : ℕ} {f : Found} → f ≡ row_named w t x first n → f ≡ At j → Reads (first_word w k) first → Reads (rows_word w k) n → RowsWithin w k
+pub row_small : (w t x : List ℕ) (k : ℕ) {first n j : ℕ} {f : Option ℕ} → f ≡ row_named w t x first n → f ≡ Some j → Reads (first_word w k) first → Reads (rows_word w k) n → RowsWithin w k
     → j < 256
 row_small w t x k {first} {n} {j} e q rf rr h = omega (arith, (named_within w t x first n j (sym e ∙ q)).1, rf.is, rr.is)
 
 -- the row that has the name of source row j, in one word
-pub named_code_lem : (ws ts wd td : List ℕ) (d j : ℕ) {first rows start len : ℕ} {f : Found} → Reads (first_word wd d) first → Reads (rows_word wd d) rows
+pub named_code_lem : (ws ts wd td : List ℕ) (d j : ℕ) {first rows start len : ℕ} {f : Option ℕ} → Reads (first_word wd d) first → Reads (rows_word wd d) rows
     → Reads (row_word ws j 0) start → Reads (row_word ws j 1) len → f ≡ row_named wd td (bytes_at ts start len) first rows
     → row_code f ≡ row_code (row_named wd td (name_at ws ts j) (first_word wd d) (rows_word wd d))
 named_code_lem ws ts wd td d j rf rr rs rl e = rw (← rf.is, ← rr.is, ← rs.is, ← rl.is, e)
@@ -73,21 +72,21 @@ valued_back true p r h = elim (dec_le (2 ^ (p - 1)) r) [ yes t ↦ rw (valued_hi
 
 -- bits that no symbol has
 bits_missing : (w : List ℕ) (k raw : ℕ) → raw < 2 ^ (layout_at w k).precision
-    → ((q : ℕ) → q < symbol_rows w k → bits_of (layout_at w k).precision (value_at w (first_word w k + q)) ≡ raw → ⊥) → number_row w k raw ≡ Missing
+    → ((q : ℕ) → q < symbol_rows w k → bits_of (layout_at w k).precision (value_at w (first_word w k + q)) ≡ raw → ⊥) → number_row w k raw ≡ None
 unfolding number_row
 bits_missing w k raw h none = go (row_numbered w z (first_word w k) (symbol_rows w k)) refl
   where
     z : ℤ
     z = valued (layout_at w k).signed (layout_at w k).precision raw
 
-    go : (f : Found) → row_numbered w z (first_word w k) (symbol_rows w k) ≡ f → f ≡ Missing
-    go (At j) e =
+    go : (f : Option ℕ) → row_numbered w z (first_word w k) (symbol_rows w k) ≡ f → f ≡ None
+    go (Some j) e =
         let in_rows = numbered_within w z (first_word w k) (symbol_rows w k) j e in
         let at : first_word w k + (j - first_word w k) ≡ j = omega (arith, in_rows.0) in
         absurd
         (none (j - first_word w k) (omega (arith, in_rows.0, in_rows.1))
         (rw (at, numbered_value w z (first_word w k) (symbol_rows w k) j e) (valued_back (layout_at w k).signed (layout_at w k).precision raw h)))
-    go Missing e = refl
+    go None e = refl
 
 listed_bits : (l : Layout) (w t : List ℕ) (first n : ℕ) → 1 ≤ l.precision → Symbols l (symbols_at w t first n) → RowsIn w l.precision first n 0 (2 ^ l.precision)
 unfolding symbols_at
@@ -265,16 +264,16 @@ among_none ws ts wd td s d raw = refl
 
 -- one row more, whose bits and whose row in the destination are these
 among_more : (ws ts wd td : List ℕ) (s d n raw : ℕ) → SymbolsFormed ws s → n < symbol_rows ws s → raw < 2 ^ (layout_at ws s).precision
-    → cond (eqb raw (bits_of (layout_at ws s).precision (value_at ws (first_word ws s + n)))) (named_code ws ts wd td d (At (first_word ws s + n))) (code_among ws ts wd td s d n raw)
+    → cond (eqb raw (bits_of (layout_at ws s).precision (value_at ws (first_word ws s + n)))) (named_code ws ts wd td d (Some (first_word ws s + n))) (code_among ws ts wd td s d n raw)
     ≡ code_among ws ts wd td s d (n + 1) raw
 unfolding code_among row_numbered
 among_more ws ts wd td s d n raw f low fits =
     rw (add-one, ← number_tested ws s n raw f low fits) (go (same_number (valued (layout_at ws s).signed (layout_at ws s).precision raw) (value_at ws (first_word ws s + n))))
   where
-    older : Found
+    older : Option ℕ
     older = row_numbered ws (valued (layout_at ws s).signed (layout_at ws s).precision raw) (first_word ws s) n
 
-    go : (b : Bool) → cond b (named_code ws ts wd td d (At (first_word ws s + n))) (named_code ws ts wd td d older) ≡ named_code ws ts wd td d (cond b (At (first_word ws s + n)) older)
+    go : (b : Bool) → cond b (named_code ws ts wd td d (Some (first_word ws s + n))) (named_code ws ts wd td d older) ≡ named_code ws ts wd td d (cond b (Some (first_word ws s + n)) older)
     go true = refl
     go false = refl
 

@@ -1,13 +1,12 @@
 -- What the functions that make and read the entries of a plan promise, and the answer of a scan. No meaning of document 01 stands here.
-use Rattle.std.specs.Prelude.{◌≡◌, Bool, cond, ◌&&◌, List, [], ◌∷◌, ℕ, ◌+◌, ◌*◌, ◌≤◌, ◌<◌, eqb, get_or, length}
+use Rattle.std.specs.Prelude.{◌≡◌, Bool, cond, ◌&&◌, Option, Some, None, List, [], ◌∷◌, ℕ, ◌+◌, ◌*◌, ◌≤◌, ◌<◌, eqb, get_or, length}
 use Rattle.layout.specs.declared.Layout.{Layout}
 use Rattle.datatype.specs.WellFormed.{WellFormedLeaf}
 use Rattle.table.specs.Table.{layout_at}
 use Rattle.table.specs.Records.{order_code, flag_code}
 use Rattle.entry_code.specs.Code.{packed, route_in}
 use Rattle.plans.specs.declared.PlanEntry.{PlanEntry}
-use Rattle.plans.specs.declared.Raising.{Raising}
-use Rattle.plans.specs.declared.Raising.TheVariants.{At, Nowhere}
+use Rattle.plans.specs.declared.LeafException.{LeafException}
 use Rattle.records.specs.Plan.{Raised}
 use Rattle.records.specs.Plan.Raised.{nowhere, at}
 use Rattle.easy.specs.Easy.{shift_of, easy_words}
@@ -16,9 +15,9 @@ use Rattle.plans.specs.PlanWords.{leaf_of_type, RowsWithin, is_real, one_real, t
 abbrev pub words_at : List ℕ → ℕ → PlanEntry
 words_at plan i = record { to = to_byte plan i; from = from_byte plan i; source = source_type_of plan i; destination = destination_type_of plan i }
 
-abbrev pub raising_of : Raised → Raising
-raising_of nowhere = Nowhere
-raising_of (at b kind given) = At b kind given
+abbrev pub raising_of : Raised → Option LeafException
+raising_of nowhere = None
+raising_of (at b kind given) = Some (record { byte = b; kind = kind; given = given })
 
 -- entry i, which is e, for a source record of s bytes and a destination record of d bytes
 pub record EntryReady (s d : ℕ) (e : PlanEntry) (i : ℕ) (ws wd words : List ℕ) : Type 0 where

@@ -1,15 +1,13 @@
 -- The plan in words, as a call holds it. `plan` has two words an entry: its two byte places, and the numbers of its two types. `words` has what else is worked out once a call: ids of
 -- the names of enums' rows, where a call wants them, in the first 512; then four words an entry, by which its leaf is converted; then the spans of enums. `ws` and `wd` are
 -- the two halves of the working table, `ts` and `td` the sheets' texts beside them.
-use Rattle.std.specs.Prelude.{◌≡◌, Bool, true, false, cond, not, ◌&&◌, List, [], ◌∷◌, ℕ, zero, suc, ◌+◌, ◌-◌, ◌*◌, ◌/◌, ◌%◌, ◌^◌, ◌≤◌, ◌<◌, eqb, leb, ltb, length, get_or}
+use Rattle.std.specs.Prelude.{Option, Some, None, ◌≡◌, Bool, true, false, cond, not, ◌&&◌, List, [], ◌∷◌, ℕ, zero, suc, ◌+◌, ◌-◌, ◌*◌, ◌/◌, ◌%◌, ◌^◌, ◌≤◌, ◌<◌, eqb, leb, ltb, length, get_or}
 use Rattle.layout.specs.declared.Layout.{Layout}
 use Rattle.layout.specs.Layout.{Valid}
 use Rattle.number.specs.declared.Fitted.{Fitted}
 use Rattle.number.specs.Number.{valued}
 use Rattle.datatype.specs.Datatype.{Leaf, Datatype, size, same}
 use Rattle.datatype.specs.WellFormed.{WellFormedLeaf, WellFormed}
-use Rattle.table.specs.declared.Found.{Found}
-use Rattle.table.specs.declared.Found.TheVariants.{At, Missing}
 use Rattle.table.specs.Table.{class_word, first_word, rows_word, flag_of, layout_at, name_at}
 unfoldable pub use Rattle.table.specs.Table.{leaf_of_type}
 use Rattle.table.specs.Records.{order_code}
@@ -63,18 +61,18 @@ unfoldable pub symbol_rows : List ℕ → ℕ → ℕ
 symbol_rows w k = cond (eqb (class_word w k) 2) (rows_word w k) 0
 
 -- the row of the source type s whose number these significant bits stand for
-unfoldable pub number_row : List ℕ → ℕ → ℕ → Found
+unfoldable pub number_row : List ℕ → ℕ → ℕ → Option ℕ
 number_row ws s raw = row_numbered ws (valued (layout_at ws s).signed (layout_at ws s).precision raw) (first_word ws s) (symbol_rows ws s)
 
 -- a row in one word: 0 for none
-abbrev pub row_code : Found → ℕ
-row_code (At j) = j + 1
-row_code Missing = 0
+abbrev pub row_code : Option ℕ → ℕ
+row_code (Some j) = j + 1
+row_code None = 0
 
 -- the row of the destination enum d that has the name of the source row that was found, in one word
-abbrev pub named_code : List ℕ → List ℕ → List ℕ → List ℕ → ℕ → Found → ℕ
-named_code ws ts wd td d (At j) = row_code (row_named wd td (name_at ws ts j) (first_word wd d) (rows_word wd d))
-named_code ws ts wd td d Missing = 0
+abbrev pub named_code : List ℕ → List ℕ → List ℕ → List ℕ → ℕ → Option ℕ → ℕ
+named_code ws ts wd td d (Some j) = row_code (row_named wd td (name_at ws ts j) (first_word wd d) (rows_word wd d))
+named_code ws ts wd td d None = 0
 
 -- "number to symbol, symbol to the destination's number": the row of the destination enum d for significant bits of the source type s, in one word
 unfoldable pub translated_code : List ℕ → List ℕ → List ℕ → List ℕ → ℕ → ℕ → ℕ → ℕ
@@ -162,14 +160,14 @@ NamesAt words ws ts wd td =
     (j k : ℕ) → j < 256 → k < 256 → EnumRow ws j → EnumRow wd k → eqb (get_or words (256 + k) 0) (get_or words j 0) ≡ same (name_at ws ts j) (name_at wd td k)
 
 -- of the n destination rows from first on, the newest whose name has this id
-unfoldable pub row_alike : List ℕ → ℕ → ℕ → ℕ → Found
-row_alike words id first zero = Missing
-row_alike words id first (suc n) = cond (eqb (get_or words (256 + (first + n)) 0) id) (At (first + n)) (row_alike words id first n)
+unfoldable pub row_alike : List ℕ → ℕ → ℕ → ℕ → Option ℕ
+row_alike words id first zero = None
+row_alike words id first (suc n) = cond (eqb (get_or words (256 + (first + n)) 0) id) (Some (first + n)) (row_alike words id first n)
 
 -- the row of the destination enum d that has the name of the source row that was found, by ids and in one word
-abbrev pub alike_code : List ℕ → List ℕ → ℕ → Found → ℕ
-alike_code words wd d (At j) = row_code (row_alike words (get_or words j 0) (first_word wd d) (rows_word wd d))
-alike_code words wd d Missing = 0
+abbrev pub alike_code : List ℕ → List ℕ → ℕ → Option ℕ → ℕ
+alike_code words wd d (Some j) = row_code (row_alike words (get_or words j 0) (first_word wd d) (rows_word wd d))
+alike_code words wd d None = 0
 
 -- ---- what the words have to stand for: the texts are in no word, and no code that goes by a plan looks at them
 

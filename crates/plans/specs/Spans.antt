@@ -1,8 +1,7 @@
 -- What the functions that make the spans of enums promise. No meaning of document 01 stands here.
-use Rattle.std.specs.Prelude.{◌≡◌, cond, List, [], ◌∷◌, ℕ, ◌+◌, ◌^◌, ◌≤◌, ◌<◌, eqb, length, get_or}
+use Rattle.std.specs.Prelude.{None, ◌≡◌, cond, List, [], ◌∷◌, ℕ, ◌+◌, ◌^◌, ◌≤◌, ◌<◌, eqb, length, get_or}
 use Rattle.layout.specs.declared.Layout.{Layout}
 use Rattle.number.specs.Number.{valued, bits_of}
-use Rattle.table.specs.declared.Found.TheVariants.{Missing}
 use Rattle.table.specs.Table.{first_word, layout_at, value_at}
 use Rattle.table.specs.Rows.{row_numbered}
 use Rattle.entry_code.specs.Code.{route_in}
@@ -30,7 +29,7 @@ pub record SymbolsFormed (w : List ℕ) (k : ℕ) : Type 0 where
 pub record SpanOf (w : List ℕ) (k room low count : ℕ) : Type 0 where
   pub few : count ≤ room
   pub inside : low + count ≤ 2 ^ (layout_at w k).precision
-  pub outside : (raw : ℕ) → raw < 2 ^ (layout_at w k).precision → (low ≤ raw → raw < low + count → ⊥) → number_row w k raw ≡ Missing
+  pub outside : (raw : ℕ) → raw < 2 ^ (layout_at w k).precision → (low ≤ raw → raw < low + count → ⊥) → number_row w k raw ≡ None
 
 -- `value` of each q below `count`, put into `before` from word `base` on
 pub record WordsPut (before : List ℕ) (base count : ℕ) (value : ℕ → ℕ) (after : List ℕ) : Type 0 where

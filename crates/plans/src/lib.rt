@@ -29,9 +29,10 @@ pub struct Coded {
     pub kind: u32,
 }
 
-// The first leaf of a record that raises an exception: its byte of the destination record, the kind, and the number that was given.
+// What a leaf raises: its byte of the destination record, the kind of the exception, and the number that was given.
 #[derive(Clone, Copy)]
-pub enum Raising {
-    At(u32, u32, Given),
-    Nowhere,
+pub struct LeafException {
+    pub byte: u32,
+    pub kind: u32,
+    pub given: Given,
 }

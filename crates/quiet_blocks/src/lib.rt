@@ -32,6 +32,7 @@ fn quiet_plain(
     let mut narrow = [0u32; BLOCK];
     let mut wide = [0u64; BLOCK];
     let mut i = from;
+    // Where the blocks end is answered, since a few records may be left over: no range tells that.
     while i + FEWEST <= count {
         let k = least(at_once, count - i);
         if block_raised(

@@ -1,4 +1,5 @@
 -- What follows where a call for the mask answers: its checks, the halves of the table, and the table afterwards. Assumes nothing.
+use Rattle.std.specs.Prelude.{Result, Ok, Err}
 use mathlib.Core.Path.{◌≡◌, refl, sym, ap, subst, ◌∙◌}
 use mathlib.Core.Bool.{Bool, true, false}
 use mathlib.Core.List.{List, ◌++◌}
@@ -16,9 +17,10 @@ use Rattle.sheet.specs.Sheet.{sheet_of}
 use Rattle.runs.specs.Run.Checked.{passed}
 use Rattle.runs.proofs.Checks.{Refusals, require_refuses}
 use Rattle.runs.proofs.Table.{Clears, sheets_clear, call_clears}
-use Rattle.two_sheets.specs.declared.Sheets.{Sheets}
-use Rattle.two_sheets.specs.declared.Sheets.TheVariants as sheets
-use Rattle.two_sheets.specs.TwoSheets.{first, second, IsSheet, ReadAs, SheetsRead, Both}
+use Rattle.two_sheets.specs.declared.TypeNumbers.{TypeNumbers}
+use Rattle.two_sheets.specs.declared.SheetFault.{SheetFault}
+use Rattle.two_sheets.specs.declared.SheetFault.TheVariants.{Source, Destination}
+use Rattle.two_sheets.specs.TwoSheets.{first, second, IsSheet, refusal, ReadAs, SheetsRead, Both}
 use Rattle.two_sheets.proofs.Halves.{rest_is, types_both}
 use Rattle.masks.specs.Mask.{mask}
 use Rattle.reaches.specs.Call as meant
@@ -57,16 +59,15 @@ module _ (ss ds : List ℕ) (w : List ℕ) (i k : ℕ) (read : IsSheet ss (first
       → Leaves m (sheets_checked ss ds (length m)) r out
   halves_leave m r out h = rw (read.0.type, read.1.type) (rw (rest_is w) at h)
 
-module _ (ss ds : List ℕ) (w : List ℕ) {r : Sheets} (reads : SheetsRead ss ds w r) (m : List ℕ) where
-  pub source_faulty : {k : ℕ} → r ≡ sheets.Source k → Leaves m (sheets_checked ss ds (length m)) (answer.Source k) m
-  source_faulty e = rw (subst (ReadAs ss ds w) e reads.is) (record { answers = refl; marks = refl })
+-- a faulty sheet
+fault_refuses : (ss ds w m : List ℕ) (f : SheetFault) → ReadAs ss ds w (Err f) → Leaves m (sheets_checked ss ds (length m)) (refusal f) m
+fault_refuses ss ds w m (Source k) is = rw is (record { answers = refl; marks = refl })
+fault_refuses ss ds w m (Destination k) is = rw (is.0.1.type, is.1) (record { answers = refl; marks = refl })
 
-  pub destination_faulty : {k : ℕ} → r ≡ sheets.Destination k → Leaves m (sheets_checked ss ds (length m)) (answer.Destination k) m
-  destination_faulty e =
-      let is = subst (ReadAs ss ds w) e reads.is in
-      rw (is.0.1.type, is.1) (record { answers = refl; marks = refl })
+pub fault_leaves : (ss ds w m : List ℕ) {r : Result TypeNumbers SheetFault} {f : SheetFault} → SheetsRead ss ds w r → r ≡ Err f → Leaves m (sheets_checked ss ds (length m)) (refusal f) m
+fault_leaves ss ds w m {f = f} reads e = fault_refuses ss ds w m f (subst (ReadAs ss ds w) e reads.is)
 
-pub types_of : (ss ds w : List ℕ) {r : Sheets} {i k : ℕ} → SheetsRead ss ds w r → r ≡ sheets.Types i k → ReadAs ss ds w (sheets.Types i k) × (length w ≡ 8192)
+pub types_of : (ss ds w : List ℕ) {r : Result TypeNumbers SheetFault} {t : TypeNumbers} → SheetsRead ss ds w r → r ≡ Ok t → ReadAs ss ds w (Ok t) × (length w ≡ 8192)
 types_of ss ds w reads e = (subst (ReadAs ss ds w) e reads.is, reads.words)
 
 -- ---- the whole call

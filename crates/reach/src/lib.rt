@@ -14,7 +14,7 @@ use symbol_sets::keeps_symbols;
 use table::read::type_word;
 use table::store::clear;
 use table::{HALF, SIZE, TABLE};
-use two_sheets::{Sheets, read_sheets};
+use two_sheets::{TypeNumbers, read_sheets};
 
 // Checks 5, 12 and 7, of types that were read, and the mask.
 fn reach_types(
@@ -71,10 +71,9 @@ fn reach_halves(
     destination_sheet: &[u8],
     mask: &mut [u8],
     table: &[u32],
-    source_type: usize,
-    destination_type: usize,
+    types: TypeNumbers,
 ) -> Answer
-    requires { ReadAs source_sheet.now destination_sheet.now table.now (Sheets.Types source_type destination_type) × (length table.now ≡ 8192) }
+    requires { ReadAs source_sheet.now destination_sheet.now table.now (Ok types) × (length table.now ≡ 8192) }
     ensures { Leaves mask.old (sheets_checked source_sheet.now destination_sheet.now (length mask.old)) result mask.new }
 {
     let source_half = &table[..HALF];
@@ -84,9 +83,9 @@ fn reach_halves(
         destination_sheet,
         mask,
         source_half,
-        source_type,
+        types.source,
         destination_half,
-        destination_type,
+        types.destination,
     )
 }
 
@@ -101,16 +100,8 @@ fn reach_sheets(
     ensures { Leaves mask.old (sheets_checked source_sheet.now destination_sheet.now (length mask.old)) result mask.new }
 {
     match read_sheets(source_sheet, destination_sheet, table) {
-        Sheets::Source(line) => Answer::Source(line),
-        Sheets::Destination(line) => Answer::Destination(line),
-        Sheets::Types(source_type, destination_type) => reach_halves(
-            source_sheet,
-            destination_sheet,
-            mask,
-            table,
-            source_type,
-            destination_type,
-        ),
+        Ok(types) => reach_halves(source_sheet, destination_sheet, mask, table, types),
+        Err(fault) => Answer::from(fault),
     }
 }
 

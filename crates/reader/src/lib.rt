@@ -1,4 +1,4 @@
-// A reader that holds a sheet and its place in it, and hands out one line at a time. The functions over the struct are thin: each takes it apart and calls
+// A reader that holds a sheet and its place in it, and hands out one line at a time. Its methods are thin: each takes it apart and calls
 // a function of the sheet and the place.
 #![tactic(auto)]
 
@@ -18,14 +18,12 @@ pub struct Reader<'a> {
 fn next_place(s: &[u8], at: usize) -> usize
     ensures { result ≡ place_after s.now at 1 }
 {
-    let mut i = at;
-    while i < s.len() {
-        if s[i] == 10 {
+    for i in at..s.len() {
+        if s[i] == b'\n' {
             return i + 1;
         }
-        i += 1;
     }
-    i
+    s.len().max(at)
 }
 
 // The place behind the next n lines.
@@ -33,10 +31,8 @@ fn place_after(s: &[u8], at: usize, n: usize) -> usize
     ensures { result ≡ place_after s.now at n }
 {
     let mut place = at;
-    let mut k: usize = 0;
-    while k < n {
+    for _ in 0..n {
         place = next_place(s, place);
-        k += 1;
     }
     place
 }
@@ -46,41 +42,42 @@ fn line_at(s: &[u8], at: usize) -> &[u8]
     ensures { result.now ≡ line_from s.now at }
 {
     if s.len() < at {
-        return &s[..0];
+        return &[];
     }
-    let end = next_place(s, at);
-    &s[at..end]
+    &s[at..next_place(s, at)]
 }
 
 // ---- a reader
 
-// A reader at the first line.
-pub fn new<'a>(sheet: &'a [u8]) -> Reader<'a>
-    ensures { (result.sheet ≡ sheet.entry) × (result.at ≡ 0) }
-{
-    Reader { sheet, at: 0 }
-}
-
-// The reader behind its next n lines.
-pub fn skip<'a>(r: Reader<'a>, n: usize) -> Reader<'a>
-    ensures { (result.sheet ≡ r.entry.sheet) × (result.at ≡ place_after r.entry.sheet.now r.entry.at n) }
-{
-    Reader {
-        sheet: r.sheet,
-        at: place_after(r.sheet, r.at, n),
+impl<'a> Reader<'a> {
+    // A reader at the first line.
+    pub fn new(sheet: &'a [u8]) -> Reader<'a>
+        ensures { (result.sheet ≡ sheet.entry) × (result.at ≡ 0) }
+    {
+        Reader { sheet, at: 0 }
     }
-}
 
-// The line at the reader's place.
-pub fn line<'a>(r: Reader<'a>) -> &'a [u8]
-    ensures { result.now ≡ line_from r.entry.sheet.now r.entry.at }
-{
-    line_at(r.sheet, r.at)
+    // The reader behind its next n lines.
+    pub fn skip(self, n: usize) -> Reader<'a>
+        ensures { (result.sheet ≡ self.entry.sheet) × (result.at ≡ place_after self.entry.sheet.now self.entry.at n) }
+    {
+        Reader {
+            at: place_after(self.sheet, self.at, n),
+            ..self
+        }
+    }
+
+    // The line at the reader's place.
+    pub fn line(self) -> &'a [u8]
+        ensures { result.now ≡ line_from self.entry.sheet.now self.entry.at }
+    {
+        line_at(self.sheet, self.at)
+    }
 }
 
 // The line behind the first k lines of a sheet; empty where the sheet has no more.
 pub fn line_numbered(sheet: &[u8], k: usize) -> &[u8]
     ensures { result.now ≡ line_numbered sheet.now k }
 {
-    line(skip(new(sheet), k))
+    Reader::new(sheet).skip(k).line()
 }

@@ -1,8 +1,8 @@
 // A whole sheet, line by line, into its half of the table.
 #![tactic(auto)]
 
-ghost use Rattle.std.specs.Prelude.{◌≡◌, true, ◌≤◌, length};
-ghost use Rattle.line.specs.Read.{next_after, names_within};
+ghost use Rattle.std.specs.Prelude.{◌≡◌, true, ◌≤◌, length, Some};
+ghost use Rattle.line.specs.Read.{next_after, name_in};
 ghost use Rattle.table.specs.Table.{Holds};
 ghost use Rattle.sheet_steps.specs.Noted.{Noted};
 ghost use Rattle.sheet_steps.specs.Judged.{so_far_at, Judges};
@@ -14,44 +14,41 @@ use judging::{
 use line::{Line, ReadLine};
 use line_reading::read_line;
 use name_marks::{MARKS_AT, NOTES};
-use sheet_steps::{Judged, MOST_TEXT, SheetRead};
+use sheet_steps::{Counts, FaultyLine, MOST_TEXT};
 use table::store::{clear, clear_types};
 
 // What a line that was read adds to the table.
-fn judge_line(half: &mut [u32], sheet: &[u8], types: u32, rows: u32, r: ReadLine) -> Judged
-    requires { Holds half.old types rows × Noted half.old sheet.now types rows × (names_within sheet.now r.line ≡ true) × (length sheet.now ≤ 16384) }
-    ensures { Judges half.new sheet.now (read_judged sheet.now r (so_far_at half.old sheet.now types rows)) result }
+fn judge_line(half: &mut [u32], sheet: &[u8], so_far: Counts, r: ReadLine) -> Option<Counts>
+    requires { Holds half.old so_far.types so_far.rows × Noted half.old sheet.now so_far.types so_far.rows × (name_in sheet.now r.line ≡ true) × (length sheet.now ≤ 16384) }
+    ensures { Judges half.new sheet.now (read_judged sheet.now (Some r) (so_far_at half.old sheet.now so_far.types so_far.rows)) result }
 {
     let line = r.line;
     let dims = r.dims;
     match line {
-        Line::Atomic(l, _) => judge_atomic(half, sheet, types, rows, l),
-        Line::Enum(base, _) => judge_enum(half, sheet, types, rows, base),
+        Line::Atomic(l, _) => judge_atomic(half, sheet, so_far, l),
+        Line::Enum(base, _) => judge_enum(half, sheet, so_far, base),
         Line::Value(a, e, negative, distance, _) => judge_value(
             half,
             sheet,
-            types,
-            rows,
+            so_far,
             a,
             e - a,
             negative,
             distance,
         ),
-        Line::Compound(size, _) => judge_compound(half, sheet, types, rows, size),
+        Line::Compound(size, _) => judge_compound(half, sheet, so_far, size),
         Line::Member(a, e, offset, kind, word, _) => judge_member(
             half,
             sheet,
-            types,
-            rows,
+            so_far,
             a,
             e - a,
             offset,
             kind,
             word,
         ),
-        Line::Array(base, _) => judge_array(half, sheet, types, rows, base, dims),
-        Line::Real(size, order, _) => judge_real(half, sheet, types, rows, size, order),
-        Line::Fault => Judged::Refused,
+        Line::Array(base, _) => judge_array(half, sheet, so_far, base, dims),
+        Line::Real(size, order, _) => judge_real(half, sheet, so_far, size, order),
     }
 }
 
@@ -67,55 +64,44 @@ fn next_of(line: Line) -> usize
         Line::Member(_, _, _, _, _, next) => next,
         Line::Array(_, next) => next,
         Line::Real(_, _, next) => next,
-        Line::Fault => 0,
     }
 }
 
 // The lines of a sheet that is not too long. The words for notes are cleared first: what an earlier sheet left there would cost a look at each row.
-fn read_lines(sheet: &[u8], half: &mut [u32]) -> SheetRead
+fn read_lines(sheet: &[u8], half: &mut [u32]) -> Result<Counts, FaultyLine>
     requires { (length sheet.now ≤ 16384) × (length half.old ≡ 4096) }
     ensures { ReadsLines sheet.now half.new result }
 {
     clear(&mut half[MARKS_AT..], NOTES);
     let mut at: usize = 0;
-    let mut n: u32 = 0;
-    let mut m: u32 = 0;
+    let mut so_far = Counts { types: 0, rows: 0 };
     let mut k: u32 = 1;
+    // A line says where the next begins, so no range gives the places.
     while at < sheet.len() {
-        let r = read_line(sheet, at);
+        let Some(r) = read_line(sheet, at) else {
+            return Err(FaultyLine(k));
+        };
         let line = r.line;
         let next = next_of(line);
-        match judge_line(half, sheet, n, m, r) {
-            Judged::Accepted(types, rows) => {
-                n = types;
-                m = rows;
-            }
-            Judged::Refused => {
-                return SheetRead::Faulty(k);
-            }
-        }
+        so_far = judge_line(half, sheet, so_far, r).ok_or(FaultyLine(k))?;
         at = next;
         k += 1;
     }
-    if n == 0 {
-        return SheetRead::Faulty(k);
+    if so_far.types == 0 {
+        return Err(FaultyLine(k));
     }
-    SheetRead::Types(n, m)
+    Ok(so_far)
 }
 
 // Reads a sheet: its types and rows stand in the table then, or its first faulty line is told.
-pub fn read_sheet(sheet: &[u8], half: &mut [u32]) -> SheetRead
+pub fn read_sheet(sheet: &[u8], half: &mut [u32]) -> Result<Counts, FaultyLine>
     requires { length half.old ≡ 4096 }
     ensures { ReadsSheet sheet.now half.new result }
 {
     if MOST_TEXT < sheet.len() {
-        return SheetRead::Faulty(0);
+        return Err(FaultyLine(0));
     }
-    match read_lines(sheet, half) {
-        SheetRead::Types(types, rows) => {
-            clear_types(half, types as usize);
-            SheetRead::Types(types, rows)
-        }
-        SheetRead::Faulty(k) => SheetRead::Faulty(k),
-    }
+    let counts = read_lines(sheet, half)?;
+    clear_types(half, counts.types as usize);
+    Ok(counts)
 }

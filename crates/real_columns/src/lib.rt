@@ -67,8 +67,7 @@ fn ints_each(t: &mut [u64], count: usize, w: Words, m: Layout) -> u64
     let least = least_of(signed, precision);
     let most = into - least;
     let mut raised: u64 = 0;
-    let mut i: usize = 0;
-    while i < count {
+    for i in 0..count {
         let f = int_near(
             bits_in(t[i], shift, mask),
             most,
@@ -79,7 +78,6 @@ fn ints_each(t: &mut [u64], count: usize, w: Words, m: Layout) -> u64
         );
         raised += f.raised;
         t[i] = place(f.raw, up, ones);
-        i += 1;
     }
     raised
 }
@@ -93,11 +91,9 @@ fn reals_short(t: &mut [u64], count: usize, w: Words, first: u64, all: u64)
     let mask = w.mask;
     let up = w.up;
     let ones = w.ones;
-    let mut i: usize = 0;
-    while i < count {
+    for i in 0..count {
         let raw = short_real(first, all, bits_in(t[i], shift, mask));
         t[i] = place(raw, up, ones);
-        i += 1;
     }
 }
 
@@ -111,12 +107,10 @@ fn reals_long(t: &mut [u64], count: usize, w: Words, signed: bool, precision: u3
     let up = w.up;
     let ones = w.ones;
     let mut raised: u64 = 0;
-    let mut i: usize = 0;
-    while i < count {
+    for i in 0..count {
         let f = to_real(number_of(signed, precision, bits_in(t[i], shift, mask)));
         raised += one_raised(f.kind);
         t[i] = place(f.raw, up, ones);
-        i += 1;
     }
     raised
 }

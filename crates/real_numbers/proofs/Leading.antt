@@ -30,16 +30,10 @@ pub highest_zero : highest 63 0 ≡ 0
 unfolding highest
 highest_zero = refl
 
-pub spare_few : (n : ℕ) → n < 2 ^ 64 → count_leading_zeros 64 n < 11 → 11 - count_leading_zeros 64 n ≡ spare n
-spare_few zero l h =
+pub spare_zeros : (n : ℕ) → n < 2 ^ 64 → 11 - count_leading_zeros 64 n ≡ spare n
+spare_zeros zero l =
     let z : count_leading_zeros 64 0 ≡ 64 = leading_of_zero 64 in
-    absurd (omega arith)
-spare_few (suc n) l h =
-    let z = highest_zeros (suc n) (zero-lt-suc n) l in
-    omega arith
-
-pub spare_none : (n : ℕ) → n < 2 ^ 64 → 11 ≤ count_leading_zeros 64 n → 0 ≡ spare n
-spare_none zero l h = rw highest_zero
-spare_none (suc n) l h =
+    rw (z, highest_zero)
+spare_zeros (suc n) l =
     let z = highest_zeros (suc n) (zero-lt-suc n) l in
     omega arith

@@ -2,5 +2,4 @@ pub mod Machine
 pub mod Leading
 pub mod Cutting
 pub mod Converted
-pub mod Wholes
 pub mod Reals

@@ -7,9 +7,9 @@ use native.Mathlib.Nat.{zero-lt-suc, mod-lt, mul-le-mul, lt_of_le_of_lt, mul_com
 use native.Mathlib.Nat.{add-mul, div-one, lt_of_lt_of_le, lt_of_not-le, not-le_of_lt, le_antisymm, mul-le-mul_right, zero-add}
 use native.Mathlib.Omega.{arith}
 use lib.IntN.{pos}
-use lib.Dec.{T, lit<, lit≤, le→leb}
+use lib.Dec.{T, lit<, lit≤}
 use lib.Pow.{pow-add, pow_pos, pow_mono, pow-lt, shl_lt, shr_lt, split}
-use lib.Ieee.{Float, nan, inf, fin, binary64, up, down, size, round, mul, add, sum, of_int, of_bits, to_bits, is_nan, in_float}
+use lib.Ieee.{Float, nan, inf, fin, binary64, up, down, size, round, mul, add, sum, of_int, of_bits, to_bits, is_nan}
 use lib.Ieee.Digits.{size-lt, size-le}
 use lib.Ieee.Fits.{down_pos}
 use lib.Ieee.Exact.{HasValue, round_exact}
@@ -147,10 +147,6 @@ rounded_number (suc n) l = number_of_value _ false _ _ (rounded_value (suc n) _ 
 -- ---- a u64 by its halves
 pub high_lt : (n : ℕ) → n < 2 ^ 64 → n / 2 ^ 32 < 2 ^ 32
 high_lt n l = shr_lt 32 32 l
-
-pub half_in : (h : ℕ) → h < 2 ^ 32 → T (in_float binary64 (pos h))
-unfolding in_float
-half_in h l = le→leb h (2 ^ 53) (omega arith)
 
 abbrev pub machine_sum : ℕ → Float
 machine_sum n = add binary64 (mul binary64 (of_int binary64 (pos (n / 2 ^ 32))) high_double) (of_int binary64 (pos (n % 2 ^ 32)))

@@ -41,30 +41,25 @@ pub fn without_fraction(b: u64) -> Cut
     let negative = SIGN <= b;
     let exponent = (b >> FRACTION_BITS) % EXPONENTS;
     let fraction = b % FRACTIONS;
-    if exponent == TOP_EXPONENT {
-        if fraction == 0 {
-            return Cut::Beyond(negative);
-        }
-        return Cut::NotANumber;
-    }
-    if exponent < EXPONENT_OF_1 {
-        return Cut::Whole(negative, 0, exponent + fraction != 0);
-    }
-    if EXPONENT_OF_2_TO_63 < exponent {
-        return Cut::Beyond(negative);
-    }
     let significand = FRACTIONS + fraction;
-    if exponent <= EXPONENT_OF_2_TO_52 {
+    if exponent == TOP_EXPONENT && fraction != 0 {
+        Cut::NotANumber
+    } else if EXPONENT_OF_2_TO_63 < exponent {
+        Cut::Beyond(negative)
+    } else if exponent < EXPONENT_OF_1 {
+        Cut::Whole(negative, 0, exponent + fraction != 0)
+    } else if exponent <= EXPONENT_OF_2_TO_52 {
         let below = (EXPONENT_OF_2_TO_52 - exponent) as u32;
-        return Cut::Whole(
+        Cut::Whole(
             negative,
             significand >> below,
             significand % pow2(below) != 0,
-        );
+        )
+    } else {
+        Cut::Whole(
+            negative,
+            significand << (exponent - EXPONENT_OF_2_TO_52),
+            false,
+        )
     }
-    Cut::Whole(
-        negative,
-        significand << (exponent - EXPONENT_OF_2_TO_52),
-        false,
-    )
 }

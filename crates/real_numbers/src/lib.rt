@@ -23,8 +23,7 @@ pub fn to_int(b: u64, l: Layout) -> Fitted
     requires { Valid l }
     ensures { (result ≡ real_to_int l b) × (result.raw < 2 ^ l.precision) }
 {
-    let c = without_fraction(b);
-    match c {
+    match without_fraction(b) {
         Cut::NotANumber => Fitted {
             raw: 0,
             kind: NOT_A_NUMBER,
@@ -42,17 +41,9 @@ pub fn to_real(z: Number) -> Fitted
     let p = split_in_range(z);
     let n = magnitude_of(p.negative, p.distance);
     let raw = with_sign(p.negative, magnitude_bits(n));
-    let given = Given::Whole(p.negative, n);
-    if is_double(n) {
-        return Fitted {
-            raw,
-            kind: NO_EXCEPTION,
-            given,
-        };
-    }
     Fitted {
         raw,
-        kind: ROUNDED,
-        given,
+        kind: if is_double(n) { NO_EXCEPTION } else { ROUNDED },
+        given: Given::Whole(p.negative, n),
     }
 }

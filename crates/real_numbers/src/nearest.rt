@@ -20,18 +20,14 @@ pub fn magnitude_bits(n: u64) -> u64
 {
     let high = (n >> HALF_BITS) as f64;
     let low = (n % HIGH) as f64;
-    f64::to_bits(high * HIGH_DOUBLE + low)
+    (high * HIGH_DOUBLE + low).to_bits()
 }
 
 // How many of the lowest bits of a number as long as n no double has.
 fn spare_bits(n: u64) -> u32
     ensures { (result ≡ highest 63 n - 52) × (result < 12) }
 {
-    let zeros = u64::leading_zeros(n);
-    if zeros < ZEROS_ABOVE {
-        return ZEROS_ABOVE - zeros;
-    }
-    0
+    ZEROS_ABOVE.saturating_sub(n.leading_zeros())
 }
 
 // Whether the double nearest to n is n: whether those bits are zero.

@@ -20,21 +20,16 @@ use number::{ABOVE, BELOW, Fitted, NO_EXCEPTION, Parts, TRUNCATED};
 fn signed_number(negative: bool, n: u64) -> Parts
     ensures { signed_by result.negative result.distance ≡ with_sign negative n }
 {
-    if n == 0 {
-        return Parts {
-            negative: false,
-            distance: 0,
-        };
-    }
-    if negative {
-        return Parts {
-            negative: true,
+    if negative && n != 0 {
+        Parts {
+            negative,
             distance: n - 1,
-        };
-    }
-    Parts {
-        negative: false,
-        distance: n,
+        }
+    } else {
+        Parts {
+            negative: false,
+            distance: n,
+        }
     }
 }
 
@@ -43,10 +38,7 @@ pub fn magnitude_of(negative: bool, distance: u64) -> u64
     requires { negative ≡ true → distance < 2 ^ 63 }
     ensures { (result ≡ magnitude (signed_by negative distance)) × (result < 2 ^ 64) }
 {
-    if negative {
-        return distance + 1;
-    }
-    distance
+    if negative { distance + 1 } else { distance }
 }
 
 // The bits of a magnitude with a sign above them.
@@ -54,40 +46,28 @@ pub fn with_sign(negative: bool, bits: u64) -> u64
     requires { bits < 2 ^ 63 }
     ensures { result ≡ cond negative (2 ^ 63) 0 + bits }
 {
-    if negative {
-        return SIGN + bits;
-    }
-    bits
+    if negative { SIGN + bits } else { bits }
 }
 
 // Whether a fraction or the sign of a negative zero is lost.
 fn loses(negative: bool, n: u64, fraction: bool) -> bool
     ensures { result ≡ (fraction || (negative && eqb n 0)) }
 {
-    if fraction {
-        return true;
-    }
-    if negative {
-        return n == 0;
-    }
-    false
+    fraction || (negative && n == 0)
 }
 
 // f with that loss noted, where nothing else was raised.
 fn noted(f: Fitted, lost: bool) -> Fitted
     ensures { result ≡ noting f.given lost f }
 {
-    if f.kind == NO_EXCEPTION {
-        if lost {
-            let given = f.given;
-            return Fitted {
-                raw: f.raw,
-                kind: TRUNCATED,
-                given,
-            };
+    if f.kind == NO_EXCEPTION && lost {
+        Fitted {
+            kind: TRUNCATED,
+            ..f
         }
+    } else {
+        f
     }
-    f
 }
 
 // The whole number of a sign and a magnitude, to which the real b was cut, with a fraction or not, brought into l's range.
@@ -104,17 +84,12 @@ fn range_end(negative: bool, signed: bool, precision: u32) -> u64
     requires { (1 ≤ precision) × (precision ≤ 64) }
     ensures { ((g : Given) → result ≡ (worth_to_int g signed precision (infinite negative)).raw) × (result < 2 ^ precision) }
 {
-    if signed {
-        let most = ones(precision - 1);
-        if negative {
-            return ones(precision) - most;
-        }
-        return most;
+    match (signed, negative) {
+        (true, true) => ones(precision) - ones(precision - 1),
+        (true, false) => ones(precision - 1),
+        (false, true) => 0,
+        (false, false) => ones(precision),
     }
-    if negative {
-        return 0;
-    }
-    ones(precision)
 }
 
 // The real b, an infinity or beyond every range, brought into l's range.
@@ -122,18 +97,9 @@ pub fn end_to_int(b: u64, negative: bool, l: Layout) -> Fitted
     requires { Valid l }
     ensures { (result ≡ worth_to_int (Real b) l.signed l.precision (infinite negative)) × (result.raw < 2 ^ l.precision) }
 {
-    let raw = range_end(negative, l.signed, l.precision);
-    let given = Given::Real(b);
-    if negative {
-        return Fitted {
-            raw,
-            kind: BELOW,
-            given,
-        };
-    }
     Fitted {
-        raw,
-        kind: ABOVE,
-        given,
+        raw: range_end(negative, l.signed, l.precision),
+        kind: if negative { BELOW } else { ABOVE },
+        given: Given::Real(b),
     }
 }

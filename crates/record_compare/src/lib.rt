@@ -5,7 +5,6 @@ ghost use Rattle.std.specs.Prelude.{◌≡◌, ◌+◌, ◌≤◌, length};
 ghost use Rattle.text.specs.Written.{Wrote};
 ghost use Rattle.comparing.specs.Comparing.{EntryFormed, EntriesFormed, entry_text, record_text};
 
-use comparing::Compared;
 use difference_text::{line_len, put_line};
 use leaf_compare::compare_leaf;
 use plan_words::entry;
@@ -25,7 +24,7 @@ fn entry_len(
     requires { EntryFormed (length first.now) (length second.now) e first_sheet.now first_half.now second_sheet.now second_half.now }
     ensures { (result ≡ length (entry_text index first.now second.now e first_sheet.now first_half.now second_sheet.now second_half.now)) × (result ≤ 84) }
 {
-    let c = compare_leaf(
+    let Some(numbers) = compare_leaf(
         e,
         first,
         second,
@@ -33,11 +32,10 @@ fn entry_len(
         second_sheet,
         first_half,
         second_half,
-    );
-    let Compared::Differ(m, n) = c else {
+    ) else {
         return 0;
     };
-    line_len(index, e.to, m, n)
+    line_len(index, e.to, numbers.first, numbers.second)
 }
 
 // The length of the lines of record `index`, which first and second begin with.
@@ -56,8 +54,7 @@ pub fn record_len(
     ensures { (result ≡ length (record_text index first.now second.now plan.now entries first_sheet.now first_half.now second_sheet.now second_half.now)) × (result ≤ 344064) }
 {
     let mut len: usize = 0;
-    let mut i: usize = 0;
-    while i < entries {
+    for i in 0..entries {
         let e = entry(plan, i);
         len += entry_len(
             index,
@@ -69,7 +66,6 @@ pub fn record_len(
             first_half,
             second_half,
         );
-        i += 1;
     }
     len
 }
@@ -90,7 +86,7 @@ fn put_entry(
     requires { EntryFormed (length first.now) (length second.now) e first_sheet.now first_half.now second_sheet.now second_half.now × (at + length (entry_text index first.now second.now e first_sheet.now first_half.now second_sheet.now second_half.now) ≤ length list.old) }
     ensures { Wrote list.old at (entry_text index first.now second.now e first_sheet.now first_half.now second_sheet.now second_half.now) list.new result }
 {
-    let c = compare_leaf(
+    let Some(numbers) = compare_leaf(
         e,
         first,
         second,
@@ -98,11 +94,10 @@ fn put_entry(
         second_sheet,
         first_half,
         second_half,
-    );
-    let Compared::Differ(m, n) = c else {
+    ) else {
         return at;
     };
-    put_line(list, at, index, e.to, m, n)
+    put_line(list, at, index, e.to, numbers.first, numbers.second)
 }
 
 // Writes the lines of record `index`, and answers the next place.
@@ -123,8 +118,7 @@ pub fn put_record(
     ensures { Wrote list.old at (record_text index first.now second.now plan.now entries first_sheet.now first_half.now second_sheet.now second_half.now) list.new result }
 {
     let mut next = at;
-    let mut k: usize = 0;
-    while k < entries {
+    for k in 0..entries {
         let e = entry(plan, k);
         next = put_entry(
             list,
@@ -138,7 +132,6 @@ pub fn put_record(
             first_half,
             second_half,
         );
-        k += 1;
     }
     next
 }

@@ -1,4 +1,5 @@
 -- The answer and the table after a call. Assumes nothing.
+use Rattle.std.specs.Prelude.{Result, Ok, Err}
 use mathlib.Core.Path.{◌≡◌, refl, sym, ap, ◌∙◌}
 use mathlib.Core.List.{List, ◌++◌}
 use Prim.Native.Nat.{ℕ, ◌-◌, ◌≤◌, ◌<◌}
@@ -11,8 +12,8 @@ use Rattle.answer.specs.declared.Answer.TheVariants.{Done, Table, Source}
 use Rattle.datatype.specs.Datatype.{size}
 use Rattle.table.specs.Table.{size_word, type_at}
 use Rattle.table.specs.Words.{Reads}
-use Rattle.sheet_steps.specs.declared.SheetRead.{SheetRead}
-use Rattle.sheet_steps.specs.declared.SheetRead.TheVariants.{Types, Faulty}
+use Rattle.sheet_steps.specs.declared.Counts.{Counts}
+use Rattle.sheet_steps.specs.declared.FaultyLine.{FaultyLine}
 use Rattle.sheet.specs.Sheet.{Sheet, sheet_of}
 use Rattle.sheet.specs.Sheet.Sheet.{of_type, faulty_at}
 use Rattle.sheet_steps.specs.Read.{ReadsSheet}
@@ -24,21 +25,21 @@ use Rattle.record_size.specs.RecordSize.{size_answer, answer_of}
 
 -- ---- a sheet
 
-module _ (t w : List ℕ) {r : SheetRead} (read : ReadsSheet t w r) where
-  module _ {n m : ℕ} (e : r ≡ Types n m) where
-    types : ReadsSheet t w (Types n m)
+module _ (t w : List ℕ) {r : Result Counts FaultyLine} (read : ReadsSheet t w r) where
+  module _ {c : Counts} (e : r ≡ Ok c) where
+    types : ReadsSheet t w (Ok c)
     types = rw e at read
 
-    pub type_some : 1 ≤ n
+    pub type_some : 1 ≤ c.types
     type_some = types.stands.some
 
-    pub size_done : {z : ℕ} → Reads (size_word w (n - 1)) z → Done z ≡ size_answer (sheet_of t)
+    pub size_done : {z : ℕ} → Reads (size_word w (c.types - 1)) z → Done z ≡ size_answer (sheet_of t)
     size_done {z} sized =
-        let is : size (type_at w t (n - 1)) ≡ z = type_size t types.stands.holds (n - 1) (omega (arith, type_some)) ∙ sym sized.is in
-        rw (sheet_type t w n m types) (ap Done (sym is))
+        let is : size (type_at w t (c.types - 1)) ≡ z = type_size t types.stands.holds (c.types - 1) (omega (arith, type_some)) ∙ sym sized.is in
+        rw (sheet_type t w c types) (ap Done (sym is))
 
-  pub size_fault : {k : ℕ} → r ≡ Faulty k → Source k ≡ size_answer (sheet_of t)
-  size_fault {k} e = rw (sheet_fault t w k (rw e at read)) refl
+  pub size_fault : {f : FaultyLine} → r ≡ Err f → Source f.0 ≡ size_answer (sheet_of t)
+  size_fault {f} e = rw (sheet_fault t w f (rw e at read)) refl
 
 pub ruleset sheet_laws = (rules, type_some, size_done, size_fault)
 

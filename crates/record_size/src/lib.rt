@@ -8,7 +8,7 @@ ghost use Rattle.record_size.specs.RecordSize.{size_answer, answer_of};
 
 use answer::Answer;
 use reading::read_sheet;
-use sheet_steps::SheetRead;
+use sheet_steps::FaultyLine;
 use table::read::type_word;
 use table::store::clear;
 use table::{HALF, SIZE, TABLE};
@@ -19,8 +19,8 @@ fn sheet_size(sheet: &[u8], half: &mut [u32]) -> Answer
     ensures { result ≡ size_answer (sheet_of sheet.now) }
 {
     match read_sheet(sheet, half) {
-        SheetRead::Types(n, _) => Answer::Done(type_word(half, (n - 1) as usize, SIZE) as u64),
-        SheetRead::Faulty(k) => Answer::Source(k),
+        Ok(counts) => Answer::Done(type_word(half, (counts.types - 1) as usize, SIZE) as u64),
+        Err(FaultyLine(k)) => Answer::Source(k),
     }
 }
 

@@ -16,7 +16,7 @@ use plans::Coded;
 use row_lookup::row_numbered;
 use table::codes::flag_of;
 use table::read::{row_word, type_word, word};
-use table::{CLASS, ENUM, FIRST, Found, HIGH, MOST_ROWS, ROWS, VALUE_HIGH, VALUE_LOW, VALUE_SIGN};
+use table::{CLASS, ENUM, FIRST, HIGH, MOST_ROWS, ROWS, VALUE_HIGH, VALUE_LOW, VALUE_SIGN};
 
 // a - b, and 0 where b is larger.
 fn minus(a: u64, b: u64) -> u64
@@ -95,10 +95,8 @@ fn row_alike(words: &[u32], id: usize, first: usize, n: usize) -> usize
     requires { (first < 4294967296) × (n < 4294967296) }
     ensures { result ≡ row_code (row_alike words.now id first n) }
 {
-    let mut left = n;
-    while 0 < left {
-        left -= 1;
-        let j = first + left;
+    for i in (0..n).rev() {
+        let j = first + i;
         if word(words, MOST_ROWS + j) == id {
             return j + 1;
         }
@@ -134,7 +132,7 @@ pub fn looked_code(
     let first = type_word(source_half, source_type, FIRST);
     let rows = symbol_rows(source_half, source_type);
     match row_numbered(source_half, first, rows, z.negative, z.distance) {
-        Found::At(row) => alike_code(words, row, destination_type, destination_half),
-        Found::Missing => 0,
+        Some(row) => alike_code(words, row, destination_type, destination_half),
+        None => 0,
     }
 }

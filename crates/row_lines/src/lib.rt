@@ -1,69 +1,58 @@
 // The lines of an enum and a compound with their values and members, from behind their first word.
 #![tactic(auto)]
 
+ghost use Rattle.std.specs.Prelude.{option_map};
 ghost use Rattle.line.specs.Line.{enum_line_of, value_line_of, compound_line_of, member_line_of};
 ghost use Rattle.line.specs.Read.{Reads, columns_reading, plain_line};
 
-use line::{Line, NameColumn, Next, WordColumn};
+use line::Line;
 use line_columns::{name_column, next_line, number_column, whole_column, word_column};
-use text::{Field, Whole};
 
-pub fn enum_line(s: &[u8], q: usize) -> Line
-    ensures { Reads s.now (plain_line result) (columns_reading s.now q enum_line_of) }
+pub fn enum_line(s: &[u8], q: usize) -> Option<Line>
+    ensures { Reads s.now (option_map plain_line result) (columns_reading s.now q enum_line_of) }
 {
-    let Field::Number(base, a) = number_column(s, q) else {
-        return Line::Fault;
-    };
-    let Next::At(next) = next_line(s, a) else {
-        return Line::Fault;
-    };
-    Line::Enum(base, next)
+    let base = number_column(s, q)?;
+    let next = next_line(s, base.end)?;
+    Some(Line::Enum(base.value, next))
 }
 
-pub fn value_line(s: &[u8], q: usize) -> Line
-    ensures { Reads s.now (plain_line result) (columns_reading s.now q value_line_of) }
+pub fn value_line(s: &[u8], q: usize) -> Option<Line>
+    ensures { Reads s.now (option_map plain_line result) (columns_reading s.now q value_line_of) }
 {
-    let NameColumn::Holds(start, end) = name_column(s, q) else {
-        return Line::Fault;
-    };
-    let Whole::Number(negative, distance, a) = whole_column(s, end) else {
-        return Line::Fault;
-    };
-    let Next::At(next) = next_line(s, a) else {
-        return Line::Fault;
-    };
-    Line::Value(start, end, negative, distance, next)
+    let name = name_column(s, q)?;
+    let number = whole_column(s, name.end)?;
+    let next = next_line(s, number.end)?;
+    Some(Line::Value(
+        name.start,
+        name.end,
+        number.value.negative,
+        number.value.distance,
+        next,
+    ))
 }
 
-pub fn comp_line(s: &[u8], q: usize) -> Line
-    ensures { Reads s.now (plain_line result) (columns_reading s.now q compound_line_of) }
+pub fn comp_line(s: &[u8], q: usize) -> Option<Line>
+    ensures { Reads s.now (option_map plain_line result) (columns_reading s.now q compound_line_of) }
 {
-    let Field::Number(size, a) = number_column(s, q) else {
-        return Line::Fault;
-    };
-    let Next::At(next) = next_line(s, a) else {
-        return Line::Fault;
-    };
-    Line::Compound(size, next)
+    let size = number_column(s, q)?;
+    let next = next_line(s, size.end)?;
+    Some(Line::Compound(size.value, next))
 }
 
-pub fn member_line(s: &[u8], q: usize) -> Line
-    ensures { Reads s.now (plain_line result) (columns_reading s.now q member_line_of) }
+pub fn member_line(s: &[u8], q: usize) -> Option<Line>
+    ensures { Reads s.now (option_map plain_line result) (columns_reading s.now q member_line_of) }
 {
-    let NameColumn::Holds(start, end) = name_column(s, q) else {
-        return Line::Fault;
-    };
-    let Field::Number(offset, a) = number_column(s, end) else {
-        return Line::Fault;
-    };
-    let Field::Number(kind, b) = number_column(s, a) else {
-        return Line::Fault;
-    };
-    let WordColumn::Holds(word, c) = word_column(s, b) else {
-        return Line::Fault;
-    };
-    let Next::At(next) = next_line(s, c) else {
-        return Line::Fault;
-    };
-    Line::Member(start, end, offset, kind, word, next)
+    let name = name_column(s, q)?;
+    let offset = number_column(s, name.end)?;
+    let kind = number_column(s, offset.end)?;
+    let word = word_column(s, kind.end)?;
+    let next = next_line(s, word.end)?;
+    Some(Line::Member(
+        name.start,
+        name.end,
+        offset.value,
+        kind.value,
+        word.value,
+        next,
+    ))
 }

@@ -10,7 +10,7 @@ ghost use Rattle.table.specs.Rows.{row_named, row_numbered};
 use name_compare::has_name;
 use table::codes::flag_of;
 use table::read::row_word;
-use table::{Found, HIGH, VALUE_HIGH, VALUE_LOW, VALUE_SIGN};
+use table::{HIGH, VALUE_HIGH, VALUE_LOW, VALUE_SIGN};
 
 // Of the n rows from first on, the newest whose name is the len bytes of x from start on.
 pub fn row_named(
@@ -21,19 +21,17 @@ pub fn row_named(
     x: &[u8],
     start: usize,
     len: usize,
-) -> Found
+) -> Option<usize>
     requires { (first < 4294967296) × (n < 4294967296) × (start < 4294967296) × (len < 4294967296) }
     ensures { result ≡ row_named half.now sheet.now (bytes_at x.now start len) first n }
 {
-    let mut left = n;
-    while 0 < left {
-        left -= 1;
-        let j = first + left;
+    for i in (0..n).rev() {
+        let j = first + i;
         if has_name(half, sheet, j, x, start, len) {
-            return Found::At(j);
+            return Some(j);
         }
     }
-    Found::Missing
+    None
 }
 
 // The value in the row has this number.
@@ -52,17 +50,21 @@ fn has_number(half: &[u32], row: usize, negative: bool, distance: u64) -> bool
 }
 
 // Of the n rows from first on, the newest whose value has this number.
-pub fn row_numbered(half: &[u32], first: usize, n: usize, negative: bool, distance: u64) -> Found
+pub fn row_numbered(
+    half: &[u32],
+    first: usize,
+    n: usize,
+    negative: bool,
+    distance: u64,
+) -> Option<usize>
     requires { (first < 4294967296) × (n < 4294967296) }
     ensures { result ≡ row_numbered half.now (signed_by negative distance) first n }
 {
-    let mut left = n;
-    while 0 < left {
-        left -= 1;
-        let j = first + left;
+    for i in (0..n).rev() {
+        let j = first + i;
         if has_number(half, j, negative, distance) {
-            return Found::At(j);
+            return Some(j);
         }
     }
-    Found::Missing
+    None
 }

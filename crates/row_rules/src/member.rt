@@ -30,10 +30,8 @@ fn is_apart(half: &[u32], first: usize, n: usize, offset: usize, width: usize) -
     requires { (first < 4294967296) × (n < 4294967296) × (offset < 4294967296) × (width < 4294967296) }
     ensures { result ≡ apart_at half.now first n offset width }
 {
-    let mut left = n;
-    while 0 < left {
-        left -= 1;
-        if !is_beside(half, first + left, offset, width) {
+    for i in (0..n).rev() {
+        if !is_beside(half, first + i, offset, width) {
             return false;
         }
     }

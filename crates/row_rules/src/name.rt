@@ -1,24 +1,13 @@
 // Whether a name is new among a type's rows.
-ghost use Rattle.std.specs.Prelude.{◌≡◌, ◌+◌, ◌<◌};
+ghost use Rattle.std.specs.Prelude.{◌≡◌, is_none, ◌+◌, ◌<◌};
 ghost use Rattle.table.specs.Table.{bytes_at};
 ghost use Rattle.table.specs.Rows.{row_named};
 ghost use Rattle.name_marks.specs.Marks.{mark_of};
 ghost use Rattle.sheet_steps.specs.Noted.{Marked};
-ghost use Rattle.sheet_steps.specs.Steps.{is_missing};
 
 use name_marks::MARKS_AT;
 use row_lookup::row_named;
-use table::Found;
 use table::read::word;
-
-pub fn is_missing(f: Found) -> bool
-    ensures { result ≡ is_missing f }
-{
-    match f {
-        Found::At(_) => false,
-        Found::Missing => true,
-    }
-}
 
 // None of the n rows from first on has the name of len bytes from start on. They are looked at only where the word at its mark is above the first of them.
 pub fn is_new(
@@ -31,10 +20,10 @@ pub fn is_new(
     mark: usize,
 ) -> bool
     requires { (mark ≡ mark_of (bytes_at sheet.now start len)) × (mark < 512) × (first < 4294967296) × (n < 4294967296) × (start < 4294967296) × (len < 4294967296) × Marked half.now sheet.now (first + n) }
-    ensures { result ≡ is_missing (row_named half.now sheet.now (bytes_at sheet.now start len) first n) }
+    ensures { result ≡ is_none (row_named half.now sheet.now (bytes_at sheet.now start len) first n) }
 {
     if word(half, MARKS_AT + mark) <= first {
         return true;
     }
-    is_missing(row_named(half, sheet, first, n, sheet, start, len))
+    row_named(half, sheet, first, n, sheet, start, len).is_none()
 }

@@ -7,7 +7,7 @@ ghost use Rattle.sheet.specs.Sheet.{may_list};
 ghost use Rattle.name_marks.specs.Marks.{mark_of};
 ghost use Rattle.sheet_steps.specs.Noted.{Marked};
 
-use crate::name::{is_missing, is_new};
+use crate::name::is_new;
 use bits::shift::ones;
 use layout::Layout;
 use row_lookup::row_numbered;
@@ -59,7 +59,7 @@ pub fn may_list(
     if !is_new(half, sheet, first, rows, start, len, mark) {
         return false;
     }
-    if !is_missing(row_numbered(half, first, rows, negative, distance)) {
+    if row_numbered(half, first, rows, negative, distance).is_some() {
         return false;
     }
     in_range(layout_at(half, type_number), negative, distance)

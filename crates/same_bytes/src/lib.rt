@@ -146,9 +146,8 @@ pub fn run_from(
     requires { (2 * entries ≤ length plan.now) × (entries ≤ 4096) × (i ≤ entries) × (to < 4294967296) × (from < 4294967296) }
     ensures { (i + result.entries ≤ entries) × Adjoin plan.now source_half.now destination_half.now i to from result.entries result.bytes }
 {
-    let mut k: usize = 0;
     let mut bytes: usize = 0;
-    while i + k < entries {
+    for k in 0..entries - i {
         let more = bytes_at(
             plan,
             i + k,
@@ -161,9 +160,11 @@ pub fn run_from(
             return Run { entries: k, bytes };
         }
         bytes += more;
-        k += 1;
     }
-    Run { entries: k, bytes }
+    Run {
+        entries: entries - i,
+        bytes,
+    }
 }
 
 // From entry i on, the entries that stay as they are and adjoin.

@@ -7,9 +7,8 @@ ghost use Rattle.plans.specs.PlanWords.{Job};
 ghost use Rattle.loops.specs.Stops.{stop_by};
 
 use block_sizes::{FEWEST, copied_at_once};
-use loops::Stop;
+use loops::Exception;
 use one_record::first_raising;
-use plans::Raising;
 use quiet_blocks::quiet_records;
 
 // The first of so many source records in src that raises an exception, and its first leaf that does: by blocks, in the block that has one by the smallest blocks, and only then record by record.
@@ -22,7 +21,7 @@ pub fn first_exception(
     source_half: &[u32],
     destination_half: &[u32],
     words: &[u32],
-) -> Stop
+) -> Option<Exception>
     requires { ((d : ℕ) × Job source_size d plan.now entries source_half.now destination_half.now words.now) × (count ≤ 65536) × (count * source_size ≤ length src.now) }
     ensures { (d : ℕ) (j : Job source_size d plan.now entries source_half.now destination_half.now words.now) → result ≡ stop_by (plan_of j.source j.destination) source_size src.now 0 count }
 {
@@ -38,7 +37,7 @@ pub fn first_exception(
         destination_half,
         words,
     );
-    let mut i = quiet_records(
+    let quiet = quiet_records(
         src,
         block,
         FEWEST,
@@ -50,8 +49,8 @@ pub fn first_exception(
         destination_half,
         words,
     );
-    while i < count {
-        if let Raising::At(b, kind, given) = first_raising(
+    for i in quiet..count {
+        if let Some(leaf) = first_raising(
             &src[i * source_size..],
             plan,
             entries,
@@ -59,9 +58,13 @@ pub fn first_exception(
             destination_half,
             words,
         ) {
-            return Stop::At(i as u32, b, kind, given);
+            return Some(Exception {
+                record: i as u32,
+                byte: leaf.byte,
+                kind: leaf.kind,
+                given: leaf.given,
+            });
         }
-        i += 1;
     }
-    Stop::Nowhere
+    None
 }

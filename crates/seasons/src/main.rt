@@ -4,27 +4,20 @@
 use answer::Answer;
 use report::report;
 use shown::{show, show_answer, show_bytes};
-use signed_text::magnitude;
 use std::io;
 use std::io::Write;
 
 // The text in a buffer, up to its first byte 0.
 fn show_text<W: Write>(out: &mut W, text: &[u8]) -> io::Result<()> {
-    for b in text {
-        if *b == 0 {
-            return Ok(());
-        }
-        let one = [*b];
-        show(out, &one)?;
-    }
-    Ok(())
+    let end = text.iter().position(|b| *b == 0).unwrap_or(text.len());
+    show(out, &text[..end])
 }
 
 // Word k of a memory, without its sign.
 fn show_word<W: Write>(out: &mut W, memory: &[i64], k: usize) -> io::Result<()> {
     show(out, b"\t")?;
-    if k < memory.len() {
-        let distance = magnitude(memory[k]);
+    if let Some(word) = memory.get(k) {
+        let distance = word.unsigned_abs();
         write!(out, "{distance}")?;
     }
     Ok(())

@@ -9,38 +9,38 @@ use lib.IntN.{ℤ}
 use Rattle.datatype.specs.Datatype.{Datatype, size}
 use Rattle.datatype.specs.Symbols.{symbol_of, number_of}
 use Rattle.datatype.specs.Paths.{member_named, on_found}
-use Rattle.table.specs.declared.Found.{Found}
-use Rattle.table.specs.declared.Found.TheVariants.{At, Missing}
+use Rattle.std.specs.Prelude.{Option, Some, None, is_some}
+use mathlib.Core.Bool.{not}
 use Rattle.table.specs.Table.{size_word, member_type_word, symbols_at, members_at, decode, type_at}
 use Rattle.table.specs.Rows.{row_named, row_numbered, member_found, value_found, name_found}
 use Rattle.table.proofs.Lookups.{member_named_lem, symbol_named, symbol_numbered}
 use Rattle.table.proofs.Made.{node_size}
 use Rattle.sheet.specs.Sheet.{is_none, is_apart}
-use Rattle.sheet_steps.specs.Steps.{is_missing, is_beside, apart_at}
+use Rattle.sheet_steps.specs.Steps.{is_beside, apart_at}
 
 -- ---- rows that were not found
 
 module _ (w t x : List ℕ) (first n : ℕ) where
-  pub name_missing : {f : Found} {b : Bool} → f ≡ row_named w t x first n → b ≡ is_missing f → is_none (number_of x (symbols_at w t first n)) ≡ b
+  pub name_missing : {f : Option ℕ} {b : Bool} → f ≡ row_named w t x first n → b ≡ not (is_some f) → is_none (number_of x (symbols_at w t first n)) ≡ b
   name_missing {f} e q = rw (symbol_named w t x first n, ← e, q) (go f)
     where
-      go : (f : Found) → is_none (value_found w f) ≡ is_missing f
-      go (At j) = refl
-      go Missing = refl
+      go : (f : Option ℕ) → is_none (value_found w f) ≡ not (is_some f)
+      go (Some j) = refl
+      go None = refl
 
-  pub member_missing : (D : ℕ → Datatype) {f : Found} {b : Bool} → f ≡ row_named w t x first n → b ≡ is_missing f → on_found (λ o T. false) true (member_named x (members_at D w t first n)) ≡ b
+  pub member_missing : (D : ℕ → Datatype) {f : Option ℕ} {b : Bool} → f ≡ row_named w t x first n → b ≡ not (is_some f) → on_found (λ o T. false) true (member_named x (members_at D w t first n)) ≡ b
   member_missing D {f} e q = rw (member_named_lem w t x first D n, ← e, q) (go f)
     where
-      go : (f : Found) → on_found (λ o T. false) true (member_found D w f) ≡ is_missing f
-      go (At j) = refl
-      go Missing = refl
+      go : (f : Option ℕ) → on_found (λ o T. false) true (member_found D w f) ≡ not (is_some f)
+      go (Some j) = refl
+      go None = refl
 
-pub number_missing : (w t : List ℕ) (z : ℤ) (first n : ℕ) {f : Found} {b : Bool} → f ≡ row_numbered w z first n → b ≡ is_missing f → is_none (symbol_of z (symbols_at w t first n)) ≡ b
+pub number_missing : (w t : List ℕ) (z : ℤ) (first n : ℕ) {f : Option ℕ} {b : Bool} → f ≡ row_numbered w z first n → b ≡ is_some f → is_none (symbol_of z (symbols_at w t first n)) ≡ not b
 number_missing w t z first n {f} e q = rw (symbol_numbered w z first t n, ← e, q) (go f)
   where
-    go : (f : Found) → is_none (name_found w t f) ≡ is_missing f
-    go (At j) = refl
-    go Missing = refl
+    go : (f : Option ℕ) → is_none (name_found w t f) ≡ not (is_some f)
+    go (Some j) = refl
+    go None = refl
 
 -- ---- overlaps
 

@@ -1,4 +1,5 @@
 -- Each kind of line, judged in the table's words. Assumes nothing.
+use Rattle.std.specs.Prelude.{Option, Some, None}
 use mathlib.Core.Path.{◌≡◌, refl, sym, ap, ◌∙◌, subst}
 use mathlib.Core.Bool.{Bool, true, false, not, ◌||◌, false≢true}
 use mathlib.Core.List.{List, [], ◌∷◌}
@@ -29,13 +30,11 @@ use Rattle.table.specs.Records.{class_code, layout_record, atomic_record, real_r
 use Rattle.layout.proofs.Edits.{fails, holds}
 use Rattle.table.proofs.Keeps.{type_is}
 use Rattle.table.proofs.Made.{node_array, node_compound, node_enum, node_real, node_leaf, atomic_made, real_made, enum_made, compound_made, array_made, member_made, value_made}
-use Rattle.sheet_steps.specs.declared.Judged.{Judged}
+use Rattle.sheet_steps.specs.declared.Counts.{Counts}
 use Rattle.sheet.specs.Sheet.{SoFar, enum_of, with_value, with_member, may_list, may_place, add_type, add_row, type_numbered, judged_after}
-use Rattle.name_marks.specs.Marks.{mark_from, mark_of, end_raised}
+use Rattle.name_marks.specs.Marks.{mark_of, end_raised}
 use Rattle.sheet_steps.specs.Noted.{Noted}
 use Rattle.sheet_steps.specs.Judged.{so_far_at, Judges}
-use Rattle.sheet_steps.specs.declared.Total.{Total}
-use Rattle.sheet_steps.specs.declared.Total.TheVariants.{Bytes, TooMany}
 use Rattle.sheet_steps.specs.Steps.{TypeAdded, RowAdded, is_int_at, total_of}
 use Rattle.sheet_steps.proofs.Numbered.{type_numbered_lem, type_size}
 use Rattle.sheet_steps.proofs.Totals.{some_dimension, few_dimensions, each_dimension, no_dimension, total_fits, total_large}
@@ -48,7 +47,7 @@ no_four : (k : Class) → class_code k ≡ 4 → ⊥
 no_four Int e = omega arith
 no_four Bits e = omega arith
 
-pub atomic_judged : {w v r : List ℕ} {n m : ℕ} {j : Judged} {b : Bool} (t : List ℕ) (l : Layout) → Holds w n m → Noted w t n m → b ≡ valid l → not b ≡ false → r ≡ atomic_record l m → TypeAdded w v n m r j
+pub atomic_judged : {w v r : List ℕ} {n m : ℕ} {j : Option Counts} {b : Bool} (t : List ℕ) (l : Layout) → Holds w n m → Noted w t n m → b ≡ valid l → not b ≡ false → r ≡ atomic_record l m → TypeAdded w v n m r j
     → Judges v t (judged_after (so_far_at w t n m) (atomic_line l)) j
 unfolding layout_record
 atomic_judged {w} {n = n} {m = m} t l h noted test kept e added =
@@ -59,7 +58,7 @@ atomic_judged {w} {n = n} {m = m} t l h noted test kept e added =
 pub real_size : {l : Layout} (o : Order) → l ≡ binary64 o → l.size.0 < 4294967296
 real_size o e = rw e (omega arith)
 
-pub real_judged : {w v r : List ℕ} {n m z : ℕ} {j : Judged} {l : Layout} (t : List ℕ) (o : Order) → Holds w n m → Noted w t n m → z ≡ 8 → l ≡ binary64 o → r ≡ real_record l m → TypeAdded w v n m r j
+pub real_judged : {w v r : List ℕ} {n m z : ℕ} {j : Option Counts} {l : Layout} (t : List ℕ) (o : Order) → Holds w n m → Noted w t n m → z ≡ 8 → l ≡ binary64 o → r ≡ real_record l m → TypeAdded w v n m r j
     → Judges v t (judged_after (so_far_at w t n m) (real_line z o)) j
 unfolding layout_record
 real_judged {w} {n = n} {m = m} {z = z} t o h noted e is er added =
@@ -115,7 +114,7 @@ module _ (D : ℕ → Datatype) (w t : List ℕ) (i : ℕ) where
       go (suc zero) e = absurd (false≢true e)
       go (suc (suc c)) e = rw (ne_eqb (suc (suc c)) 1 (λ x. omega arith)) refl
 
-pub enum_judged : {w v r : List ℕ} {n m k : ℕ} {j : Judged} {l : Layout} {b : Bool} (t : List ℕ) → Holds w n m → Noted w t n m → k < n → b ≡ is_int_at w k → not b ≡ false → l ≡ layout_at w k → r ≡ enum_record l m → TypeAdded w v n m r j
+pub enum_judged : {w v r : List ℕ} {n m k : ℕ} {j : Option Counts} {l : Layout} {b : Bool} (t : List ℕ) → Holds w n m → Noted w t n m → k < n → b ≡ is_int_at w k → not b ≡ false → l ≡ layout_at w k → r ≡ enum_record l m → TypeAdded w v n m r j
     → Judges v t (judged_after (so_far_at w t n m) (enum_line k)) j
 unfolding layout_record
 enum_judged {w} {n = n} {m = m} {k = k} {l = l} t h noted below test kept e er added =
@@ -132,7 +131,7 @@ enum_other {w} {n} {m} {k} t h below test e = rw (type_numbered_lem w t k n, lt-
 
 -- ---- compounds
 
-pub compound_judged : {w v r : List ℕ} {n m z : ℕ} {j : Judged} (t : List ℕ) → Holds w n m → Noted w t n m → 1 ≤ z → z ≤ 4096 → r ≡ compound_record z m → TypeAdded w v n m r j
+pub compound_judged : {w v r : List ℕ} {n m z : ℕ} {j : Option Counts} (t : List ℕ) → Holds w n m → Noted w t n m → 1 ≤ z → z ≤ 4096 → r ≡ compound_record z m → TypeAdded w v n m r j
     → Judges v t (judged_after (so_far_at w t n m) (compound_line z)) j
 unfolding compound_record
 compound_judged {w} {n = n} {m = m} {z = z} t h noted low high e added =
@@ -164,19 +163,19 @@ array_line_lem {w} {n} {m} {k} t ds h below four ne =
       each_dimension ds,
     ) refl
 
-pub array_judged : {w v r : List ℕ} {n m k z y : ℕ} {j : Judged} {o : Total} (t ds : List ℕ) → Holds w n m → Noted w t n m → k < n → length ds ≡ 4 → (get_or ds 0 0 ≡ 0 → ⊥)
-    → y ≡ size_word w k → o ≡ total_of ds y → o ≡ Bytes z → r ≡ array_record z k m ds → TypeAdded w v n m r j
+pub array_judged : {w v r : List ℕ} {n m k z y : ℕ} {j : Option Counts} {o : Option ℕ} (t ds : List ℕ) → Holds w n m → Noted w t n m → k < n → length ds ≡ 4 → (get_or ds 0 0 ≡ 0 → ⊥)
+    → y ≡ size_word w k → o ≡ total_of ds y → o ≡ Some z → r ≡ array_record z k m ds → TypeAdded w v n m r j
     → Judges v t (judged_after (so_far_at w t n m) (array_line k (up_to_zero ds))) j
 unfolding array_record
 array_judged {w} {n = n} {m = m} {k = k} {z = z} t ds h noted below four ne size answer bytes e added =
-    let total : Bytes z ≡ total_of ds (size_word w k) = rw (← size) (sym bytes ∙ answer) in
+    let total : Some z ≡ total_of ds (size_word w k) = rw (← size) (sym bytes ∙ answer) in
     rw (array_line_lem t ds h below four ne, (total_fits ds (size_word w k) total).0, ← (total_fits ds (size_word w k) total).1)
     (typed t h noted (rw e at added) refl (λ x. below) refl refl (λ x. array_made w n x h.words (type_at w t) t z k m ds four))
 
-pub array_large : {w : List ℕ} {n m k y : ℕ} {o : Total} (t ds : List ℕ) → Holds w n m → k < n → length ds ≡ 4 → (get_or ds 0 0 ≡ 0 → ⊥)
-    → y ≡ size_word w k → o ≡ total_of ds y → o ≡ TooMany → judged_after (so_far_at w t n m) (array_line k (up_to_zero ds)) ≡ none
+pub array_large : {w : List ℕ} {n m k y : ℕ} {o : Option ℕ} (t ds : List ℕ) → Holds w n m → k < n → length ds ≡ 4 → (get_or ds 0 0 ≡ 0 → ⊥)
+    → y ≡ size_word w k → o ≡ total_of ds y → o ≡ None → judged_after (so_far_at w t n m) (array_line k (up_to_zero ds)) ≡ none
 array_large {w} {k = k} t ds h below four ne size answer many =
-    let total : TooMany ≡ total_of ds (size_word w k) = rw (← size) (sym many ∙ answer) in
+    let total : None ≡ total_of ds (size_word w k) = rw (← size) (sym many ∙ answer) in
     rw (array_line_lem t ds h below four ne, total_large ds (size_word w k) total)
 
 pub array_none : {w : List ℕ} {n m k : ℕ} (t ds : List ℕ) → Holds w n m → k < n → length ds ≡ 4 → get_or ds 0 0 ≡ 0
@@ -240,7 +239,7 @@ pub value_refused : {w : List ℕ} (n : ℕ) {m : ℕ} {b : Bool} (t x : List �
     → judged_after (so_far_at w t n m) (value_line x z) ≡ none
 value_refused n t x z h ne e may test = value_in n t x z h ne e ∙ rw (fails may test)
 
-pub value_judged : {w v r : List ℕ} (n : ℕ) {m mark : ℕ} {j : Judged} {b : Bool} (t : List ℕ) (start len : ℕ) (negative : Bool) (d : ℕ) → Holds w n m → Noted w t n m → (n ≡ 0 → ⊥) → class_word w (n - 1) ≡ 2
+pub value_judged : {w v r : List ℕ} (n : ℕ) {m mark : ℕ} {j : Option Counts} {b : Bool} (t : List ℕ) (start len : ℕ) (negative : Bool) (d : ℕ) → Holds w n m → Noted w t n m → (n ≡ 0 → ⊥) → class_word w (n - 1) ≡ 2
     → b ≡ may_list (layout_at w (n - 1)) (symbols_at w t (first_word w (n - 1)) (rows_word w (n - 1))) (bytes_at t start len) (signed_by negative d) → not b ≡ false
     → mark ≡ mark_of (bytes_at t start len) → r ≡ value_record start len negative d → RowAdded w v mark n m r j
     → Judges v t (judged_after (so_far_at w t n m) (value_line (bytes_at t start len) (signed_by negative d))) j
@@ -279,7 +278,7 @@ pub member_refused : {w : List ℕ} (n : ℕ) {m : ℕ} {b : Bool} (t x : List �
     → judged_after (so_far_at w t n m) (member_line x offset k word) ≡ none
 member_refused n t x offset k word h ne below e size may test = member_in n t x offset k word h ne below e ∙ rw (← size, fails may test)
 
-pub member_judged : {w v u r : List ℕ} (n : ℕ) {m mark : ℕ} {j : Judged} {b : Bool} (t : List ℕ) (start len offset k : ℕ) (word : Word) {width : ℕ} → Holds w n m → Noted w t n m → (n ≡ 0 → ⊥) → k < n - 1 → class_word w (n - 1) ≡ 3 → width ≡ size_word w k
+pub member_judged : {w v u r : List ℕ} (n : ℕ) {m mark : ℕ} {j : Option Counts} {b : Bool} (t : List ℕ) (start len offset k : ℕ) (word : Word) {width : ℕ} → Holds w n m → Noted w t n m → (n ≡ 0 → ⊥) → k < n - 1 → class_word w (n - 1) ≡ 3 → width ≡ size_word w k
     → b ≡ may_place (size_word w (n - 1)) (members_at (type_at w t) w t (first_word w (n - 1)) (rows_word w (n - 1))) (bytes_at t start len) offset width → not b ≡ false
     → mark ≡ mark_of (bytes_at t start len) → r ≡ member_record start len offset k word → RowAdded w v mark n m r j → u ≡ end_raised v (n - 1) (offset + width)
     → Judges u t (judged_after (so_far_at w t n m) (member_line (bytes_at t start len) offset k word)) j

@@ -13,8 +13,7 @@ use lib.ListN.{get_or, length, set, length-set}
 use lib.Seq.{paste, length-paste, get_or-set_same, get_or-set_other}
 use Rattle.datatype.specs.Datatype.{same}
 use Rattle.datatype.proofs.Tests.{same→eq}
-use Rattle.table.specs.declared.Found.{Found}
-use Rattle.table.specs.declared.Found.TheVariants.{At, Missing}
+use Rattle.std.specs.Prelude.{None}
 use Rattle.table.specs.Table.{type_word, row_word, class_word, size_word, first_word, rows_word, offset_word, member_type_word, bytes_at, name_at, Holds}
 use Rattle.table.specs.Records.{row_added}
 use Rattle.table.specs.Rows.{row_named}
@@ -207,7 +206,7 @@ module _ {w : List ℕ} {n m : ℕ} (t : List ℕ) (h : Holds w n m) (noted : No
 
 -- a name whose mark is not above the first row is in no row from there on
 module _ (w t x : List ℕ) (first : ℕ) where
-  pub name_new : (n : ℕ) → Marked w t (first + n) → mark_word w x ≤ first → row_named w t x first n ≡ Missing
+  pub name_new : (n : ℕ) → Marked w t (first + n) → mark_word w x ≤ first → row_named w t x first n ≡ None
   unfolding row_named
   name_new zero marks h = refl
   name_new (suc n) marks h = rw (differs (same x (name_at w t (first + n))) refl, name_new n (λ j a. marks j (omega arith)) h) refl

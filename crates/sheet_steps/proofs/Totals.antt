@@ -12,7 +12,7 @@ use lib.ListN.{get_or, length, drop, drop_of_length-le}
 use lib.Seq.{drop-cons}
 use Rattle.datatype.specs.Datatype.{elements}
 use Rattle.table.specs.Table.{up_to_zero}
-use Rattle.sheet_steps.specs.declared.Total.TheVariants.{Bytes, TooMany}
+use Rattle.std.specs.Prelude.{Some, None}
 use Rattle.sheet.specs.Sheet.{each_some}
 use Rattle.sheet_steps.specs.Steps.{total_of}
 
@@ -74,30 +74,30 @@ left_step ds p q h ne e =
 -- ---- the answer
 
 module _ (ds : List ℕ) (z : ℕ) where
-  pub total_ends : (p q : ℕ) → p ≤ 4096 → left ds q ≡ 1 → p * left ds q ≡ elements (up_to_zero ds) * z → Bytes p ≡ total_of ds z
+  pub total_ends : (p q : ℕ) → p ≤ 4096 → left ds q ≡ 1 → p * left ds q ≡ elements (up_to_zero ds) * z → Some p ≡ total_of ds z
   unfolding total_of
   total_ends p q h one e =
       let all : p ≡ elements (up_to_zero ds) * z = sym (mul-one p) ∙ ap (λ (k : ℕ). p * k) (sym one) ∙ e in
       rw (← all, le-leb p 4096 h)
 
-  pub total_many : (p q : ℕ) → 4096 < p → p * left ds q ≡ elements (up_to_zero ds) * z → TooMany ≡ total_of ds z
+  pub total_many : (p q : ℕ) → 4096 < p → p * left ds q ≡ elements (up_to_zero ds) * z → None ≡ total_of ds z
   unfolding total_of
   total_many p q h e =
       let some : p * 1 ≤ p * left ds q = mul-le-mul_left p (elements_some (drop q ds)) in
       rw (← e, lt-leb (p * left ds q) 4096 (omega (arith, mul-one p)))
 
-  pub total_fits : {p : ℕ} → Bytes p ≡ total_of ds z → (leb (elements (up_to_zero ds) * z) 4096 ≡ true) × (p ≡ elements (up_to_zero ds) * z)
+  pub total_fits : {p : ℕ} → Some p ≡ total_of ds z → (leb (elements (up_to_zero ds) * z) 4096 ≡ true) × (p ≡ elements (up_to_zero ds) * z)
   unfolding total_of
   total_fits {p} e = go (leb (elements (up_to_zero ds) * z) 4096) refl e
     where
-      go : (b : Bool) → leb (elements (up_to_zero ds) * z) 4096 ≡ b → Bytes p ≡ cond b (Bytes (elements (up_to_zero ds) * z)) TooMany → (leb (elements (up_to_zero ds) * z) 4096 ≡ true) × (p ≡ elements (up_to_zero ds) * z)
+      go : (b : Bool) → leb (elements (up_to_zero ds) * z) 4096 ≡ b → Some p ≡ cond b (Some (elements (up_to_zero ds) * z)) None → (leb (elements (up_to_zero ds) * z) 4096 ≡ true) × (p ≡ elements (up_to_zero ds) * z)
       go true t e = (t, cc)
       go false t e = let x : ◌≡◌ {A = ℕ} 0 1 = cc in absurd (omega arith)
 
-  pub total_large : TooMany ≡ total_of ds z → leb (elements (up_to_zero ds) * z) 4096 ≡ false
+  pub total_large : None ≡ total_of ds z → leb (elements (up_to_zero ds) * z) 4096 ≡ false
   unfolding total_of
   total_large e = go (leb (elements (up_to_zero ds) * z) 4096) refl e
     where
-      go : (b : Bool) → leb (elements (up_to_zero ds) * z) 4096 ≡ b → TooMany ≡ cond b (Bytes (elements (up_to_zero ds) * z)) TooMany → leb (elements (up_to_zero ds) * z) 4096 ≡ false
+      go : (b : Bool) → leb (elements (up_to_zero ds) * z) 4096 ≡ b → None ≡ cond b (Some (elements (up_to_zero ds) * z)) None → leb (elements (up_to_zero ds) * z) 4096 ≡ false
       go true t e = let x : ◌≡◌ {A = ℕ} 0 1 = cc in absurd (omega arith)
       go false t e = t

@@ -32,8 +32,9 @@ use Rattle.line.specs.declared.Line.{Line}
 use Rattle.line.specs.declared.Line.TheVariants.{Value, Member}
 use Rattle.datatype.specs.declared.Word.{Word}
 use Rattle.line.specs.declared.ReadLine.{ReadLine}
+use Rattle.std.specs.Prelude as code
 use Rattle.line.specs.Column.{holdable}
-use Rattle.line.specs.Read.{name_within, names_within, readable, says, next_of, Reading, as_reading, reading, reading_to, line_reading}
+use Rattle.line.specs.Read.{name_within, name_in, readable, says, next_of, Reading, as_reading, reading, reading_to, line_reading}
 use Rattle.line.specs.Read.Reading.{faulty as unread}
 use Rattle.line.proofs.Columns.{byte_inside}
 use Rattle.table.specs.Table.{bytes_at}
@@ -57,10 +58,10 @@ name_inside t a e h =
     let v = and_true (ltb a e) (leb e (a + 31)) u.0 in
     (ltb-true a e v.0, leb-true e (length t) u.1)
 
-pub value_inside : (t : List ℕ) (l : Line) {a e d n : ℕ} {b : Bool} → names_within t l ≡ true → l ≡ Value a e b d n → (a < e) × (e ≤ length t)
+pub value_inside : (t : List ℕ) (l : Line) {a e d n : ℕ} {b : Bool} → name_in t l ≡ true → l ≡ Value a e b d n → (a < e) × (e ≤ length t)
 value_inside t l {a} {e} h q = name_inside t a e (rw q at h)
 
-pub member_inside : (t : List ℕ) (l : Line) {a e o k : ℕ} {word : Word} {n : ℕ} → names_within t l ≡ true → l ≡ Member a e o k word n → (a < e) × (e ≤ length t)
+pub member_inside : (t : List ℕ) (l : Line) {a e o k : ℕ} {word : Word} {n : ℕ} → name_in t l ≡ true → l ≡ Member a e o k word n → (a < e) × (e ≤ length t)
 member_inside t l {a} {e} h q = name_inside t a e (rw q at h)
 
 -- ---- a line that no answer can hold is refused
@@ -149,13 +150,13 @@ some_nil (b ∷ bs) h = refl
 -- ---- the line at a place
 
 -- what becomes of the lines from a place on, where the line there was read as r and judged
-pub record Turn (t : List ℕ) (at k : ℕ) (s : SoFar) (r : ReadLine) : Type 0 where
+pub record Turn (t : List ℕ) (at k : ℕ) (s : SoFar) (r : code.Option ReadLine) : Type 0 where
   pub refused : read_judged t r s ≡ none → lines_from k s (split newline (drop at t)) ≡ faulty k
   pub goes_on : (u : SoFar) → read_judged t r s ≡ some u → lines_from k s (split newline (drop at t)) ≡ lines_from (suc k) u (split newline (drop (next_of r) t))
   pub further : (u : SoFar) → read_judged t r s ≡ some u → at < next_of r
   pub inside : (u : SoFar) → read_judged t r s ≡ some u → next_of r ≤ length t
 
-module _ (t : List ℕ) (at k : ℕ) (s : SoFar) (formed : EachWellFormed s.types) (below : at < length t) (r : ReadLine) (told : reading t r ≡ line_reading t at) where
+module _ (t : List ℕ) (at k : ℕ) (s : SoFar) (formed : EachWellFormed s.types) (below : at < length t) (r : code.Option ReadLine) (told : reading t r ≡ line_reading t at) where
   ended_line : newline_at t (line_end t at) ≡ true → as_reading (says t r) (next_of r) ≡ as_reading (line_of (line_at t at) >>= λ x. when (readable x) x) (line_end t at + 1)
   unfolding reading_to
   ended_line h = told ∙ rw h refl

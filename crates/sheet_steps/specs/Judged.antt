@@ -1,9 +1,9 @@
 -- What the code that judges a line promises: the table stands for what the definition gives.
-use Rattle.std.specs.Prelude.{◌≡◌, List, ℕ, length}
+use Rattle.std.specs.Prelude as code
+use Rattle.std.specs.Prelude.{◌≡◌, List, ℕ, length, Some, None}
 use Rattle.std.proofs.Math.Option.{Option, none, some}
 use Rattle.table.specs.Table.{types_at, Holds}
-use Rattle.sheet_steps.specs.declared.Judged.{Judged}
-use Rattle.sheet_steps.specs.declared.Judged.TheVariants.{Accepted, Refused}
+use Rattle.sheet_steps.specs.declared.Counts.{Counts}
 use Rattle.sheet.specs.Sheet.{SoFar}
 use Rattle.sheet_steps.specs.Noted.{Noted}
 
@@ -11,20 +11,20 @@ use Rattle.sheet_steps.specs.Noted.{Noted}
 abbrev pub so_far_at : List ℕ → List ℕ → ℕ → ℕ → SoFar
 so_far_at w t n m = record { types = types_at w t n; rows = m }
 
-abbrev pub judged_as : Judged → List ℕ → List ℕ → Option SoFar
-judged_as (Accepted n m) w t = some (so_far_at w t n m)
-judged_as Refused w t = none
+abbrev pub judged_as : code.Option Counts → List ℕ → List ℕ → Option SoFar
+judged_as (Some c) w t = some (so_far_at w t c.types c.rows)
+judged_as None w t = none
 
-abbrev pub HoldsAfter : Judged → List ℕ → Type 0
-HoldsAfter (Accepted n m) w = Holds w n m
-HoldsAfter Refused w = Unit {0}
+abbrev pub HoldsAfter : code.Option Counts → List ℕ → Type 0
+HoldsAfter (Some c) w = Holds w c.types c.rows
+HoldsAfter None w = Unit {0}
 
-abbrev pub NotedAfter : Judged → List ℕ → List ℕ → Type 0
-NotedAfter (Accepted n m) w t = Noted w t n m
-NotedAfter Refused w t = Unit {0}
+abbrev pub NotedAfter : code.Option Counts → List ℕ → List ℕ → Type 0
+NotedAfter (Some c) w t = Noted w t c.types c.rows
+NotedAfter None w t = Unit {0}
 
 -- the table w after a line stands for `after`, as the answer r says
-pub record Judges (w t : List ℕ) (after : Option SoFar) (r : Judged) : Type 0 where
+pub record Judges (w t : List ℕ) (after : Option SoFar) (r : code.Option Counts) : Type 0 where
   pub is : judged_as r w t ≡ after
   pub holds : HoldsAfter r w
   pub noted : NotedAfter r w t

@@ -10,23 +10,13 @@ pub const MOST_BYTES: u32 = 4096;
 
 pub const MOST_TEXT: usize = 16384;
 
-// The types and rows after an accepted line; or the line is refused.
+// How many types and rows of a sheet stand in the table.
 #[derive(Clone, Copy)]
-pub enum Judged {
-    Accepted(u32, u32),
-    Refused,
+pub struct Counts {
+    pub types: u32,
+    pub rows: u32,
 }
 
-// The bytes of an array, or more than are allowed.
+// The number of a sheet's first faulty line; 0 for a sheet that is too long.
 #[derive(Clone, Copy)]
-pub enum Total {
-    Bytes(u32),
-    TooMany,
-}
-
-// A sheet's types and rows, which stand in the table; or its first faulty line.
-#[derive(Clone, Copy)]
-pub enum SheetRead {
-    Types(u32, u32),
-    Faulty(u32),
-}
+pub struct FaultyLine(pub u32);

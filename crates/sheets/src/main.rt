@@ -5,7 +5,7 @@ ghost use Rattle.std.specs.Prelude.{◌<◌, IfOk, OnOk, length};
 ghost use Rattle.std.specs.Io.KnownBytes.{Appends};
 
 use reading::read_sheet;
-use sheet_steps::SheetRead;
+use sheet_steps::{Counts, FaultyLine};
 use std::io;
 use std::io::{Read, Write};
 use std::rt::Files;
@@ -16,10 +16,10 @@ fn show<W: Write>(out: &mut W, text: &[u8]) -> io::Result<()>
     out.write_all(text)
 }
 
-fn show_answer<W: Write>(out: &mut W, answer: SheetRead) -> io::Result<()> {
+fn show_answer<W: Write>(out: &mut W, answer: Result<Counts, FaultyLine>) -> io::Result<()> {
     match answer {
-        SheetRead::Types(_, _) => show(out, b"\tread\n"),
-        SheetRead::Faulty(line) => {
+        Ok(_) => show(out, b"\tread\n"),
+        Err(FaultyLine(line)) => {
             show(out, b"\tfaulty\t")?;
             writeln!(out, "{line}")
         }
@@ -27,7 +27,7 @@ fn show_answer<W: Write>(out: &mut W, answer: SheetRead) -> io::Result<()> {
 }
 
 // Reads an open sheet. There is room for more bytes than a sheet may have, so that one that is too long is seen to be.
-fn read_open<R: Read>(file: &mut R) -> io::Result<SheetRead> {
+fn read_open<R: Read>(file: &mut R) -> io::Result<Result<Counts, FaultyLine>> {
     let mut bytes = [0u8; 20000];
     let mut table = [0u32; 4096];
     let n = files_read::fill(file, &mut bytes)?;
@@ -57,6 +57,7 @@ fn show_next<R: Files + Print + Eprint>(rt: &R, names: &[u8], at: usize) -> io::
 // The lines of all sheets, in the order of their names.
 fn show_all<R: Files + Print + Eprint>(rt: &R, names: &[u8]) -> io::Result<()> {
     let mut at: usize = 0;
+    // The end of a name says where the next one starts, so no range gives the places.
     while at < names.len() {
         at = show_next(rt, names, at)?;
     }

@@ -52,6 +52,7 @@ pub fn replace_records(
 {
     let mut raised: u64 = 0;
     let mut j: usize = 0;
+    // A step is a block, of which the last may be shorter: a range with a step would say that no more plainly.
     while j < k {
         let more = least(at_once, k - j);
         raised += replace_block(

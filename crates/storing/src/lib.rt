@@ -4,7 +4,6 @@
 ghost use Rattle.std.specs.Prelude.{◌≡◌, ◌+◌, ◌*◌, ◌/◌, ◌%◌, ◌^◌, ◌≤◌, ◌<◌, length, set, get_or};
 ghost use Rattle.std.proofs.Math.Seq.{paste};
 ghost use Rattle.bits.specs.Container.{contained};
-ghost use Rattle.bits.specs.Index.{set_all};
 
 use bits::shift::shift_right;
 use bits::{ByteAt, Order, bits_of, index_of};
@@ -33,52 +32,19 @@ fn put_any(d: &mut [u8], at: usize, size: usize, order: Order, c: u64)
     requires { (size ≤ 8) × (at + size ≤ length d.old) }
     ensures { d.new ≡ paste d.old at (contained order size c) size }
 {
-    let mut i = 0;
-    while i < size {
+    for i in 0..size {
         put_one(d, at, size, order, c, i);
-        i += 1;
     }
 }
 
-fn put1(d: &mut [u8], at: usize, order: Order, c: u64)
-    requires { at + 1 ≤ length d.old }
-    ensures { d.new ≡ paste d.old at (contained order 1 c) 1 }
+// The same where the size is a constant.
+fn put<const N: usize>(d: &mut [u8], at: usize, order: Order, c: u64)
+    requires { (N ≤ 8) × (at + N ≤ length d.old) }
+    ensures { d.new ≡ paste d.old at (contained order N c) N }
 {
-    put_one(d, at, 1, order, c, 0);
-}
-
-fn put2(d: &mut [u8], at: usize, order: Order, c: u64)
-    requires { at + 2 ≤ length d.old }
-    ensures { d.new ≡ paste d.old at (contained order 2 c) 2 }
-{
-    put_one(d, at, 2, order, c, 0);
-    put_one(d, at, 2, order, c, 1);
-}
-
-// The bytes at places i to i + 3.
-fn put_four(d: &mut [u8], at: usize, size: usize, order: Order, c: u64, i: usize)
-    requires { (size ≤ 8) × (i + 4 ≤ size) × (at + size ≤ length d.old) }
-    ensures { (d.new ≡ set_all d.old at (contained order size c) i 4) × (length d.new ≡ length d.old) }
-{
-    put_one(d, at, size, order, c, i);
-    put_one(d, at, size, order, c, i + 1);
-    put_one(d, at, size, order, c, i + 2);
-    put_one(d, at, size, order, c, i + 3);
-}
-
-fn put4(d: &mut [u8], at: usize, order: Order, c: u64)
-    requires { at + 4 ≤ length d.old }
-    ensures { d.new ≡ paste d.old at (contained order 4 c) 4 }
-{
-    put_four(d, at, 4, order, c, 0);
-}
-
-fn put8(d: &mut [u8], at: usize, order: Order, c: u64)
-    requires { at + 8 ≤ length d.old }
-    ensures { d.new ≡ paste d.old at (contained order 8 c) 8 }
-{
-    put_four(d, at, 8, order, c, 0);
-    put_four(d, at, 8, order, c, 4);
+    for i in 0..N {
+        put_one(d, at, N, order, c, i);
+    }
 }
 
 fn put_le(d: &mut [u8], at: usize, size: usize, c: u64)
@@ -86,10 +52,10 @@ fn put_le(d: &mut [u8], at: usize, size: usize, c: u64)
     ensures { d.new ≡ paste d.old at (contained Order.LE size c) size }
 {
     match size {
-        1 => put1(d, at, Order::LE, c),
-        2 => put2(d, at, Order::LE, c),
-        4 => put4(d, at, Order::LE, c),
-        8 => put8(d, at, Order::LE, c),
+        1 => put::<1>(d, at, Order::LE, c),
+        2 => put::<2>(d, at, Order::LE, c),
+        4 => put::<4>(d, at, Order::LE, c),
+        8 => put::<8>(d, at, Order::LE, c),
         _ => put_any(d, at, size, Order::LE, c),
     }
 }
@@ -99,10 +65,10 @@ fn put_be(d: &mut [u8], at: usize, size: usize, c: u64)
     ensures { d.new ≡ paste d.old at (contained Order.BE size c) size }
 {
     match size {
-        1 => put1(d, at, Order::BE, c),
-        2 => put2(d, at, Order::BE, c),
-        4 => put4(d, at, Order::BE, c),
-        8 => put8(d, at, Order::BE, c),
+        1 => put::<1>(d, at, Order::BE, c),
+        2 => put::<2>(d, at, Order::BE, c),
+        4 => put::<4>(d, at, Order::BE, c),
+        8 => put::<8>(d, at, Order::BE, c),
         _ => put_any(d, at, size, Order::BE, c),
     }
 }

@@ -62,6 +62,7 @@ pub fn find(table: &[u64], raw: u64) -> usize
     let keys = table[KEY_COUNT] as usize;
     let mut step: usize = LONGEST_STEP;
     let mut at: usize = 0;
+    // The step is halved each time: no range has these steps.
     while 0 < step {
         at = step_up(table, keys, raw, step, at);
         step = step / 2;
@@ -141,13 +142,11 @@ fn halves_each(t: &mut [u64], count: usize, w: Words, table: &[u64]) -> u64
     let ones = w.ones;
     let keys = table[KEY_COUNT] as usize;
     let mut raised: u64 = 0;
-    let mut i: usize = 0;
-    while i < count {
+    for i in 0..count {
         let raw = raw_in(t[i], shift, mask);
         let q = find(table, raw);
         raised += none_at(table, q, keys, raw);
         t[i] = placed(out_at(table, q, keys, raw, into), into, up, ones);
-        i += 1;
     }
     raised
 }
@@ -169,12 +168,10 @@ fn span_run(
     let entries = table[ENTRY_COUNT];
     let low = table[LOWEST];
     let mut raised: u64 = 0;
-    let mut i: usize = 0;
-    while i < count {
+    for i in 0..count {
         let e = span_entry(table, raw_in(t[i], shift, mask), low, entries);
         raised += e / NONE;
         t[i] = placed(e % NONE, into, up, ones);
-        i += 1;
     }
     raised
 }

@@ -11,8 +11,7 @@ use lib.ListN.{get_or, length, set, replicate, length-set, length-replicate, get
 use lib.Seq.{get_or-set_other}
 use Rattle.datatype.specs.Datatype.{Symbol, same}
 use Rattle.datatype.specs.SymbolSets.{has_symbol, all_stand_in}
-use Rattle.table.specs.declared.Found.{Found}
-use Rattle.table.specs.declared.Found.TheVariants.{At, Missing}
+use Rattle.std.specs.Prelude.{Option, Some, None}
 use Rattle.table.specs.Table.{first_word, rows_word, name_at, symbols_at}
 use Rattle.table.specs.Words.{Reads}
 use Rattle.table.specs.Rows.{row_named}
@@ -22,13 +21,13 @@ use Rattle.symbol_sets.specs.Seen.{symbols_of_type, all_stand, Seen}
 
 -- ---- symbols in rows
 
-abbrev is_found : Found → Bool
-is_found (At j) = true
-is_found Missing = false
+abbrev is_found : Option ℕ → Bool
+is_found (Some j) = true
+is_found None = false
 
-is_some : (r : Found) → (r ≡ Missing → ⊥) → is_found r ≡ true
-is_some (At j) h = refl
-is_some Missing h = absurd (h refl)
+is_some : (r : Option ℕ) → (r ≡ None → ⊥) → is_found r ≡ true
+is_some (Some j) h = refl
+is_some None h = absurd (h refl)
 
 has_named : (w t x : List ℕ) (first n : ℕ) → has_symbol x (symbols_at w t first n) ≡ is_found (row_named w t x first n)
 unfolding has_symbol symbols_at row_named
@@ -36,7 +35,7 @@ has_named w t x first zero = refl
 has_named w t x first (suc n) = go (has_named w t x first n) (same x (name_at w t (first + n)))
   where
     go : has_symbol x (symbols_at w t first n) ≡ is_found (row_named w t x first n) → (b : Bool)
-        → b || has_symbol x (symbols_at w t first n) ≡ is_found (cond b (At (first + n)) (row_named w t x first n))
+        → b || has_symbol x (symbols_at w t first n) ≡ is_found (cond b (Some (first + n)) (row_named w t x first n))
     go later true = refl
     go later false = later
 
@@ -56,19 +55,19 @@ module _ (ws ts : List ℕ) (first : ℕ) (ss : List Symbol) where
   stand_more zero h = absurd (not-suc-le-zero h)
   stand_more (suc n) h = rw sub-one refl
 
-module _ (ws ts : List ℕ) (first : ℕ) (wd td : List ℕ) (d n : ℕ) (h : 0 < n) {r : Found}
+module _ (ws ts : List ℕ) (first : ℕ) (wd td : List ℕ) (d n : ℕ) (h : 0 < n) {r : Option ℕ}
     (hr : NamedIn wd td (name_at ws ts (first + (n - 1))) (first_word wd d) (rows_word wd d) r) where
-  found_is : {v : Found} → r ≡ v → has_symbol (name_at ws ts (first + (n - 1))) (symbols_of_type wd td d) ≡ is_found v
+  found_is : {v : Option ℕ} → r ≡ v → has_symbol (name_at ws ts (first + (n - 1))) (symbols_of_type wd td d) ≡ is_found v
   found_is {v} e = has_named wd td (name_at ws ts (first + (n - 1))) (first_word wd d) (rows_word wd d) ∙ go v e
     where
-      go : (v : Found) → r ≡ v → is_found (row_named wd td (name_at ws ts (first + (n - 1))) (first_word wd d) (rows_word wd d)) ≡ is_found v
-      go (At j) q = is_some _ (some_row wd td (name_at ws ts (first + (n - 1))) (first_word wd d) (rows_word wd d) hr q)
-      go Missing q = ap is_found (hr.none q)
+      go : (v : Option ℕ) → r ≡ v → is_found (row_named wd td (name_at ws ts (first + (n - 1))) (first_word wd d) (rows_word wd d)) ≡ is_found v
+      go (Some j) q = is_some _ (some_row wd td (name_at ws ts (first + (n - 1))) (first_word wd d) (rows_word wd d) hr q)
+      go None q = ap is_found (hr.none q)
 
-  pub stand_lost : r ≡ Missing → all_stand_in (symbols_at ws ts first n) (symbols_of_type wd td d) ≡ false
+  pub stand_lost : r ≡ None → all_stand_in (symbols_at ws ts first n) (symbols_of_type wd td d) ≡ false
   stand_lost e = stand_more ws ts first (symbols_of_type wd td d) n h ∙ rw (found_is e) refl
 
-  pub stand_next : {j : ℕ} → r ≡ At j
+  pub stand_next : {j : ℕ} → r ≡ Some j
       → all_stand_in (symbols_at ws ts first n) (symbols_of_type wd td d) ≡ all_stand_in (symbols_at ws ts first (n - 1)) (symbols_of_type wd td d)
   stand_next e = stand_more ws ts first (symbols_of_type wd td d) n h ∙ rw (found_is e) refl
 

@@ -18,7 +18,7 @@ use Rattle.table.specs.Table.{member_type_word, dimensions_at, node, decode}
 use Rattle.table.specs.Words.{Reads}
 use Rattle.plans.proofs.LeafSteps.{leaf_enum}
 use Rattle.paths.specs.declared.Turn.TheVariants.{Answer}
-use Rattle.paths.specs.declared.Inner.TheVariants.{Neither}
+use Rattle.std.specs.Prelude.{None}
 use Rattle.paths.specs.Steps.{kind_at, Turns, Inside}
 use Rattle.paths.proofs.Shapes.{kind_is, leaf_kind, tree_kind, tree_kind_lem, array_node, leaf_node}
 use Rattle.paths.proofs.Turns.{ByParts, turn_lists, turn_bases}
@@ -135,7 +135,7 @@ number_type w t k (suc f) e S =
     number_keeps S (node (decode f w t) w t k) (λ q. n.0 (sym is ∙ q)) (λ q. n.1 (sym is ∙ q)) (λ q. n.2 (sym is ∙ q))
 
 pub number_inside : (ws ts : List ℕ) (s : ℕ) (wd td : List ℕ) (j : ℕ) {k kind : ℕ} {r : Bool} → Reads (member_type_word wd j) k → kind ≡ kind_at wd k → r ≡ is_number kind
-    → r ≡ true → Inside keeps_symbols ws ts s wd td j Neither
+    → r ≡ true → Inside keeps_symbols ws ts s wd td j None
 number_inside ws ts s wd td j hk hm hr e f z fs fd =
     record {
       is = all_found (decode f wd td (member_type_word wd j)) (number_type wd td (member_type_word wd j) f (rw (← hk.is, ← hm, ← hr) e)) (member_named _ _);

@@ -16,7 +16,7 @@ use paths::dimensions::same_dimensions;
 use paths::types::{inner_types, kind_at};
 use paths::{Inner, Turn};
 use table::read::{row_word, type_word};
-use table::{ARRAY, BASE, COMPOUND, ENUM, FIRST, Found, MEMBER_TYPE, MOST_TYPES, ROWS};
+use table::{ARRAY, BASE, COMPOUND, ENUM, FIRST, MEMBER_TYPE, MOST_TYPES, ROWS};
 
 // One byte for each pair of a source type and a destination type: this where they are enums whose symbols were looked up, and all stand in the destination.
 const PAIRS: usize = 4096;
@@ -35,22 +35,18 @@ fn symbols_stand(
     ensures { result ≡ all_stand source_half.now source_sheet.now source_type destination_half.now destination_sheet.now destination_type }
 {
     let first_symbol = type_word(source_half, source_type, FIRST);
-    let mut left = type_word(source_half, source_type, ROWS);
-    while 0 < left {
-        left -= 1;
-        match namesake(
+    let n = type_word(source_half, source_type, ROWS);
+    for i in (0..n).rev() {
+        let Some(_) = namesake(
             destination_half,
             destination_sheet,
             destination_type,
             source_half,
             source_sheet,
-            first_symbol + left,
-        ) {
-            Found::At(_) => {}
-            Found::Missing => {
-                return false;
-            }
-        }
+            first_symbol + i,
+        ) else {
+            return false;
+        };
     }
     true
 }
@@ -150,7 +146,7 @@ fn symbol_types(
     destination_half: &[u32],
     destination_sheet: &[u8],
     row: usize,
-) -> Inner
+) -> Option<Inner>
     ensures { Inside keeps_symbols source_half.now source_sheet.now source_type destination_half.now destination_sheet.now row result }
 {
     let kind = kind_at(
@@ -158,7 +154,7 @@ fn symbol_types(
         row_word(destination_half, row, MEMBER_TYPE),
     );
     if is_number(kind) {
-        return Inner::Neither;
+        return None;
     }
     inner_types(
         source_half,
@@ -209,32 +205,28 @@ fn keeps_to(
         ),
         Turn::Lists => {
             let first = type_word(destination_half, destination_type, FIRST);
-            let mut left = type_word(destination_half, destination_type, ROWS);
-            while 0 < left {
-                left -= 1;
-                match symbol_types(
+            let n = type_word(destination_half, destination_type, ROWS);
+            for i in (0..n).rev() {
+                if let Some(inner) = symbol_types(
                     source_half,
                     source_sheet,
                     source_type,
                     destination_half,
                     destination_sheet,
-                    first + left,
+                    first + i,
                 ) {
-                    Inner::Both(k, l) => {
-                        if !keeps_to(
-                            source_half,
-                            source_sheet,
-                            k,
-                            destination_half,
-                            destination_sheet,
-                            l,
-                            depth - 1,
-                            seen,
-                        ) {
-                            return false;
-                        }
+                    if !keeps_to(
+                        source_half,
+                        source_sheet,
+                        inner.source,
+                        destination_half,
+                        destination_sheet,
+                        inner.destination,
+                        depth - 1,
+                        seen,
+                    ) {
+                        return false;
                     }
-                    Inner::Neither => {}
                 }
             }
             true
@@ -246,10 +238,8 @@ fn keeps_to(
 fn has_enum(half: &[u32]) -> bool
     ensures { result ≡ any_enum half.now 64 }
 {
-    let mut left = MOST_TYPES;
-    while 0 < left {
-        left -= 1;
-        if kind_at(half, left) == ENUM {
+    for k in (0..MOST_TYPES).rev() {
+        if kind_at(half, k) == ENUM {
             return true;
         }
     }

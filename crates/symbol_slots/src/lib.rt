@@ -26,12 +26,10 @@ fn find(tables: &[u64], x: u64) -> usize
     requires { 2176 ≤ length tables.now }
     ensures { (result ≤ 4) × (result < 4 → get_or (table_in tables.now result) 0 0 ≡ x) × ((j : ℕ) → j < 4 → get_or (table_in tables.now j) 0 0 ≡ x → result < 4) }
 {
-    let mut j: usize = 0;
-    while j < TABLES {
+    for j in 0..TABLES {
         if tables[TABLE_WORDS * j] == x {
             return j;
         }
-        j += 1;
     }
     TABLES
 }
@@ -108,11 +106,8 @@ pub fn put_tables(
     requires { (tables.old ≡ replicate 2176 0) × ((s : ℕ) × (d : ℕ) × Ready s d plan.now entries source_half.now destination_half.now words.now) }
     ensures { result ≡ true → Tabled tables.new plan.now entries source_half.now destination_half.now words.now }
 {
-    let mut i: usize = 0;
-    while i < entries {
-        if put_entry(tables, plan, i, source_half, destination_half, words) {
-            i += 1;
-        } else {
+    for i in 0..entries {
+        if !put_entry(tables, plan, i, source_half, destination_half, words) {
             return false;
         }
     }

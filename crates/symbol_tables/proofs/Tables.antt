@@ -2,7 +2,7 @@
 use mathlib.Core.Path.{◌≡◌, refl, sym, ap, ◌∙◌}
 use mathlib.Core.Bool.{Bool, true, false, cond, ◌&&◌, false≢true}
 use mathlib.Core.List.{List}
-use mathlib.Core.Option.{Option, none, some}
+use mathlib.Core.Option.{Option as MathOption, none, some}
 use Prim.Native.Nat.{ℕ, zero, suc, ◌+◌, ◌-◌, ◌/◌, ◌%◌, ◌^◌, ◌≤◌, ◌<◌}
 use native.Mathlib.Nat.{le_refl, mod-lt, mod-eq_of_lt, lt_of_lt_of_le}
 use native.Mathlib.Omega.{arith}
@@ -19,8 +19,7 @@ use Rattle.number.proofs.RoundTrip.{bits_back, fitted_lt}
 use Rattle.datatype.specs.Datatype.{Leaf}
 use Rattle.datatype.specs.Symbols.{same_number, on_some}
 use Rattle.datatype.proofs.Tests.{sameNumber→eq}
-use Rattle.table.specs.declared.Found.{Found}
-use Rattle.table.specs.declared.Found.TheVariants.{At, Missing}
+use Rattle.std.specs.Prelude.{Option, Some, None}
 use Rattle.table.specs.Table.{first_word, rows_word, layout_at, value_at, symbols_at}
 use Rattle.table.specs.Rows.{row_numbered}
 use Rattle.entry_code.specs.Code.{route_in}
@@ -68,7 +67,7 @@ code_lt {s} {d} {ws} {wd} p route raw =
     m : Layout
     m = layout_at wd d
 
-    go : (o : Option ℤ) → (on_some (translated_to m (given_of x z)) (untranslated m (given_of x z)) o).raw < 2 ^ m.precision
+    go : (o : MathOption ℤ) → (on_some (translated_to m (given_of x z)) (untranslated m (given_of x z)) o).raw < 2 ^ m.precision
     go none = ones_lt m.precision
     go (some w) = fitted_lt m.signed m.precision w (pair_valid p).1.some
 
@@ -157,13 +156,13 @@ span_table s d ws wd words k {table} {m} em narrow t few small enum most p =
 
 -- ---- a row of the source
 
-numbered_value : (w : List ℕ) (z : ℤ) (first n j : ℕ) → row_numbered w z first n ≡ At j → value_at w j ≡ z
+numbered_value : (w : List ℕ) (z : ℤ) (first n j : ℕ) → row_numbered w z first n ≡ Some j → value_at w j ≡ z
 unfolding row_numbered
 numbered_value w z first zero j e = let no : ◌≡◌ {A = ℕ} 0 1 = cc in absurd (omega arith)
 numbered_value w z first (suc n) j e = go (numbered_value w z first n j) (same_number z (value_at w (first + n))) refl e
   where
-    go : (row_numbered w z first n ≡ At j → value_at w j ≡ z) → (b : Bool) → same_number z (value_at w (first + n)) ≡ b
-        → cond b (At (first + n)) (row_numbered w z first n) ≡ At j → value_at w j ≡ z
+    go : (row_numbered w z first n ≡ Some j → value_at w j ≡ z) → (b : Bool) → same_number z (value_at w (first + n)) ≡ b
+        → cond b (Some (first + n)) (row_numbered w z first n) ≡ Some j → value_at w j ≡ z
     go later true q h =
         let i : first + n ≡ j = cc in
         rw (← i) (sym (sameNumber→eq z (value_at w (first + n)) q))
@@ -176,7 +175,7 @@ record RowOf (ws : List ℕ) (s raw : ℕ) : Type 0 where
   is : bits_of (layout_at ws s).precision (value_at ws (first_word ws s + row)) ≡ raw
 
 module _ (ws : List ℕ) (s raw : ℕ) (v : Valid (layout_at ws s)) (h : raw < 2 ^ (layout_at ws s).precision) where
-  row_of : (j : ℕ) → number_row ws s raw ≡ At j → RowOf ws s raw
+  row_of : (j : ℕ) → number_row ws s raw ≡ Some j → RowOf ws s raw
   unfolding number_row
   row_of j e =
       let z : ℤ = valued (layout_at ws s).signed (layout_at ws s).precision raw in
@@ -193,9 +192,9 @@ module _ (ws : List ℕ) (s raw : ℕ) (v : Valid (layout_at ws s)) (h : raw < 2
   unfolding translated_code
   code_row ts wd td d has = go (number_row ws s raw) refl has
     where
-      go : (f : Found) → number_row ws s raw ≡ f → (named_code ws ts wd td d f ≡ 0 → ⊥) → RowOf ws s raw
-      go (At j) e found = row_of j e
-      go Missing e found = absurd (found refl)
+      go : (f : Option ℕ) → number_row ws s raw ≡ f → (named_code ws ts wd td d f ≡ 0 → ⊥) → RowOf ws s raw
+      go (Some j) e found = row_of j e
+      go None e found = absurd (found refl)
 
 -- ---- by halves
 

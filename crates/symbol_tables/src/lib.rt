@@ -60,10 +60,8 @@ fn put_entries(
     requires { (544 ≤ length table.old) × (start < 4294967296) × (count ≤ 512) × (precision ≤ 32) }
     ensures { (j : ℕ) → j < count → get_or table.new (16 + j) 0 ≡ entry_of precision (code_bits half.now precision (get_or words.now (start + j) 0)) }
 {
-    let mut j: usize = 0;
-    while j < count {
+    for j in 0..count {
         table[KEYS + j] = entry_of(half, word(words, start + j), precision);
-        j += 1;
     }
 }
 
@@ -175,8 +173,7 @@ fn read_rows(
     requires { (512 ≤ length rows.old) × (count ≤ 256) × (first < 4294967296) × (first ≡ first_word source_half.now source_type) × Valid l × (l ≡ layout_at source_half.now source_type) × (place + 4 ≤ length words.now) × (4 ≤ route_in (get_or words.now place 0)) }
     ensures { RowsRead source_type destination_type source_half.now destination_half.now words.now place count rows.new }
 {
-    let mut i: usize = 0;
-    while i < count {
+    for i in 0..count {
         let bits = value_bits(source_half, first + i, l.precision);
         let code = bits_code(
             bits,
@@ -190,7 +187,6 @@ fn read_rows(
         );
         rows[i] = bits;
         rows[CODES + i] = code as u64;
-        i += 1;
     }
 }
 

@@ -1,18 +1,16 @@
 -- A table without the records of types that are not there: it holds the same types, and the rows of every type are inside. Assumes nothing.
 use mathlib.Core.Path.{◌≡◌, refl, sym, ap, ◌∙◌}
-use mathlib.Core.Logic.{⊎_elim}
 use mathlib.Core.List.{List}
 use mathlib.Core.Bool.{Bool, true, false, cond}
-use Prim.Native.Nat.{ℕ, suc, ◌+◌, ◌-◌, ◌*◌, ◌<◌, ◌≤◌}
+use Prim.Native.Nat.{ℕ, ◌+◌, ◌-◌, ◌*◌, ◌<◌, ◌≤◌}
 use native.Mathlib.Nat.{lt_of_not-le}
 use native.Mathlib.Decide.{dec_le}
 use native.Mathlib.Omega.{arith}
 use borrow.Author.Tests.{ltb-true}
 use lib.Dec.{ltb}
 use lib.ListN.{get_or, length, replicate, length-replicate, get_or-replicate}
-use lib.Seq.{paste, length-paste}
-use Rattle.datatype.specs.Datatype.{Datatype}
-use Rattle.table.specs.Table.{type_word, row_word, first_word, rows_word, types_at, Low, Holds}
+use lib.Seq.{length-paste}
+use Rattle.table.specs.Table.{type_word, row_word, types_at, Holds}
 use Rattle.table.specs.Records.{types_cleared, RowsInside}
 use Rattle.table.proofs.Stores.{paste_before, paste_at, paste_behind}
 use Rattle.table.proofs.Frames.{Agree, low_frame, types_frame}

@@ -2,7 +2,7 @@
 use mathlib.Core.Path.{◌≡◌, refl}
 use mathlib.Core.Bool.{Bool, true, false}
 use mathlib.Core.List.{List}
-use Prim.Native.Nat.{ℕ, zero, suc}
+use Prim.Native.Nat.{ℕ}
 use Rattle.bits.specs.declared.Order.{Order}
 use Rattle.bits.specs.declared.Order.TheVariants.{LE, BE}
 use Rattle.layout.specs.declared.Class.{Class}
@@ -15,24 +15,6 @@ use Rattle.datatype.specs.declared.Word.TheVariants.{Silent, Clamp, Stop}
 use Rattle.table.specs.Table.{order_of, pad_of, flag_of, class_of, word_of, type_word, layout_at}
 use Rattle.table.specs.Words.{Reads}
 use Rattle.table.specs.Records.{order_code, pad_code, flag_code, class_code, word_code}
-
-pub order_other : (k : ℕ) → (k ≡ 0 → ⊥) → BE ≡ order_of k
-order_other zero h = absurd (h refl)
-order_other (suc k) h = refl
-
-pub pad_other : (k : ℕ) → (k ≡ 0 → ⊥) → (k ≡ 1 → ⊥) → Keep ≡ pad_of k
-pad_other zero h g = absurd (h refl)
-pad_other (suc zero) h g = absurd (g refl)
-pad_other (suc (suc k)) h g = refl
-
-pub word_other : (k : ℕ) → (k ≡ 0 → ⊥) → (k ≡ 1 → ⊥) → Stop ≡ word_of k
-word_other zero h g = absurd (h refl)
-word_other (suc zero) h g = absurd (g refl)
-word_other (suc (suc k)) h g = refl
-
-pub flag_other : (k : ℕ) → (k ≡ 0 → ⊥) → true ≡ flag_of k
-flag_other zero h = absurd (h refl)
-flag_other (suc k) h = refl
 
 pub order_back : (x : Order) → order_of (order_code x) ≡ x
 order_back LE = refl

@@ -13,18 +13,18 @@ use Rattle.datatype.specs.Datatype.{Datatype, same}
 use Rattle.datatype.specs.Symbols.{same_number, symbol_of, number_of}
 use Rattle.datatype.specs.Paths.{member_named}
 use Rattle.datatype.specs.Paths.Lookup.{found}
-use Rattle.table.specs.declared.Found.TheVariants.{At, Missing}
+use Rattle.std.specs.Prelude.{Some, None}
 use Rattle.table.specs.Table.{row_word, flag_of, name_at, value_at, offset_word, member_type_word, members_at, symbols_at}
 use Rattle.table.specs.Words.{Reads}
 use Rattle.table.specs.Rows.{row_named, row_numbered, member_found, value_found, name_found}
 
 module _ (w t x : List ℕ) (first : ℕ) where
-  pub named_none : (n : ℕ) → n ≤ 0 → row_named w t x first n ≡ Missing
+  pub named_none : (n : ℕ) → n ≤ 0 → row_named w t x first n ≡ None
   unfolding row_named
   named_none zero h = refl
   named_none (suc n) h = absurd (not-suc-le-zero h)
 
-  pub named_hit : (n : ℕ) {r : Bool} → 0 < n → r ≡ same x (name_at w t (first + (n - 1))) → r ≡ true → row_named w t x first n ≡ At (first + (n - 1))
+  pub named_hit : (n : ℕ) {r : Bool} → 0 < n → r ≡ same x (name_at w t (first + (n - 1))) → r ≡ true → row_named w t x first n ≡ Some (first + (n - 1))
   unfolding row_named
   named_hit zero h e q = absurd (not-suc-le-zero h)
   named_hit (suc n) h e q = rw (sub-one) (rw (← (rw (sub-one) at e), q) refl)
@@ -39,7 +39,7 @@ module _ (w t x : List ℕ) (first : ℕ) where
   member_named_lem D zero = refl
   member_named_lem D (suc n) = go (member_named_lem D n) (same x (name_at w t (first + n)))
     where
-      go : member_named x (members_at D w t first n) ≡ member_found D w (row_named w t x first n) → (b : Bool) → cond b (found (offset_word w (first + n)) (D (member_type_word w (first + n)))) (member_named x (members_at D w t first n)) ≡ member_found D w (cond b (At (first + n)) (row_named w t x first n))
+      go : member_named x (members_at D w t first n) ≡ member_found D w (row_named w t x first n) → (b : Bool) → cond b (found (offset_word w (first + n)) (D (member_type_word w (first + n)))) (member_named x (members_at D w t first n)) ≡ member_found D w (cond b (Some (first + n)) (row_named w t x first n))
       go ih true = refl
       go ih false = ih
 
@@ -48,17 +48,17 @@ module _ (w t x : List ℕ) (first : ℕ) where
   symbol_named zero = refl
   symbol_named (suc n) = go (symbol_named n) (same x (name_at w t (first + n)))
     where
-      go : number_of x (symbols_at w t first n) ≡ value_found w (row_named w t x first n) → (b : Bool) → cond b (some (value_at w (first + n))) (number_of x (symbols_at w t first n)) ≡ value_found w (cond b (At (first + n)) (row_named w t x first n))
+      go : number_of x (symbols_at w t first n) ≡ value_found w (row_named w t x first n) → (b : Bool) → cond b (some (value_at w (first + n))) (number_of x (symbols_at w t first n)) ≡ value_found w (cond b (Some (first + n)) (row_named w t x first n))
       go ih true = refl
       go ih false = ih
 
 module _ (w : List ℕ) (z : ℤ) (first : ℕ) where
-  pub numbered_none : (n : ℕ) → n ≤ 0 → row_numbered w z first n ≡ Missing
+  pub numbered_none : (n : ℕ) → n ≤ 0 → row_numbered w z first n ≡ None
   unfolding row_numbered
   numbered_none zero h = refl
   numbered_none (suc n) h = absurd (not-suc-le-zero h)
 
-  pub numbered_hit : (n : ℕ) {r : Bool} → 0 < n → r ≡ same_number z (value_at w (first + (n - 1))) → r ≡ true → row_numbered w z first n ≡ At (first + (n - 1))
+  pub numbered_hit : (n : ℕ) {r : Bool} → 0 < n → r ≡ same_number z (value_at w (first + (n - 1))) → r ≡ true → row_numbered w z first n ≡ Some (first + (n - 1))
   unfolding row_numbered
   numbered_hit zero h e q = absurd (not-suc-le-zero h)
   numbered_hit (suc n) h e q = rw (sub-one) (rw (← (rw (sub-one) at e), q) refl)
@@ -73,7 +73,7 @@ module _ (w : List ℕ) (z : ℤ) (first : ℕ) where
   symbol_numbered t zero = refl
   symbol_numbered t (suc n) = go (symbol_numbered t n) (same_number z (value_at w (first + n)))
     where
-      go : symbol_of z (symbols_at w t first n) ≡ name_found w t (row_numbered w z first n) → (b : Bool) → cond b (some (name_at w t (first + n))) (symbol_of z (symbols_at w t first n)) ≡ name_found w t (cond b (At (first + n)) (row_numbered w z first n))
+      go : symbol_of z (symbols_at w t first n) ≡ name_found w t (row_numbered w z first n) → (b : Bool) → cond b (some (name_at w t (first + n))) (symbol_of z (symbols_at w t first n)) ≡ name_found w t (cond b (Some (first + n)) (row_numbered w z first n))
       go ih true = refl
       go ih false = ih
 

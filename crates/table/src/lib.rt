@@ -84,10 +84,3 @@ pub const HIGH: usize = 4294967296;
 pub mod codes;
 pub mod read;
 pub mod store;
-
-// A row's number, or none.
-#[derive(Clone, Copy)]
-pub enum Found {
-    At(usize),
-    Missing,
-}

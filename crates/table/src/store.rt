@@ -12,12 +12,7 @@ fn put(half: &mut [u32], place: usize, r: &[u32])
     requires { place + length r.now ≤ length half.old }
     ensures { half.new ≡ paste half.old place r.now (length r.now) }
 {
-    let mut q: usize = 0;
-    while q < r.len() {
-        let at = place + q;
-        half[at] = r[q];
-        q += 1;
-    }
+    half[place..place + r.len()].copy_from_slice(r);
 }
 
 // The record of a type.
@@ -60,13 +55,7 @@ pub fn clear_types(half: &mut [u32], n: usize)
     requires { (n ≤ 64) × (length half.old ≡ 4096) }
     ensures { half.new ≡ types_cleared half.old n }
 {
-    let from = TYPE_WORDS * n;
-    let mut q: usize = 0;
-    while q < ROWS_AT - from {
-        let at = from + q;
-        half[at] = 0;
-        q += 1;
-    }
+    half[TYPE_WORDS * n..ROWS_AT].fill(0);
 }
 
 // The first n words.
@@ -74,9 +63,5 @@ pub fn clear(words: &mut [u32], n: usize)
     requires { n ≤ length words.old }
     ensures { words.new ≡ replicate n 0 ++ drop n words.old }
 {
-    let mut i: usize = 0;
-    while i < n {
-        words[i] = 0;
-        i += 1;
-    }
+    words[..n].fill(0);
 }

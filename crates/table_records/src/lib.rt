@@ -20,27 +20,20 @@ const REAL: u32 = 5;
 // What one of the high half of a distance is worth.
 const HIGH: u64 = 4294967296;
 
+#[tactic(auto, unfolding(table::specs::Records::layout_record))]
 fn layout_record(class: u32, l: Layout, first: u32) -> [u32; 16]
     requires { l.size.0 < 4294967296 }
     ensures { result ≡ layout_record class l first }
 {
-    let o = l.order;
-    let a = l.lsb;
-    let b = l.msb;
-    let size = l.size.0 as u32;
-    let order = order_code(o);
-    let lsb = pad_code(a);
-    let msb = pad_code(b);
-    let signed = flag_code(l.signed);
     [
         class,
-        size,
-        order,
+        l.size.0 as u32,
+        order_code(l.order),
         l.offset.0,
         l.precision,
-        lsb,
-        msb,
-        signed,
+        pad_code(l.lsb),
+        pad_code(l.msb),
+        flag_code(l.signed),
         0,
         first,
         0,
@@ -56,8 +49,7 @@ pub fn atomic_record(l: Layout, first: u32) -> [u32; 16]
     requires { l.size.0 < 4294967296 }
     ensures { result ≡ atomic_record l first }
 {
-    let class = l.class;
-    layout_record(class_code(class), l, first)
+    layout_record(class_code(l.class), l, first)
 }
 
 pub fn real_record(l: Layout, first: u32) -> [u32; 16]
@@ -76,12 +68,14 @@ pub fn enum_record(l: Layout, first: u32) -> [u32; 16]
 }
 
 // A compound without members.
+#[tactic(auto, unfolding(table::specs::Records::compound_record))]
 pub fn compound_record(size: u32, first: u32) -> [u32; 16]
     ensures { result ≡ compound_record size first }
 {
     [COMPOUND, size, 0, 0, 0, 0, 0, 0, 0, first, 0, 0, 0, 0, 0, 0]
 }
 
+#[tactic(auto, unfolding(table::specs::Records::array_record))]
 pub fn array_record(size: u32, base: u32, first: u32, dims: [u32; 4]) -> [u32; 16]
     ensures { result ≡ array_record size base first dims }
 {
@@ -90,18 +84,18 @@ pub fn array_record(size: u32, base: u32, first: u32, dims: [u32; 4]) -> [u32; 1
     ]
 }
 
+#[tactic(auto, unfolding(table::specs::Records::value_record))]
 pub fn value_record(start: u32, len: u32, negative: bool, distance: u64) -> [u32; 8]
     ensures { result ≡ value_record start len negative distance }
 {
-    let sign = flag_code(negative);
     let low = (distance % HIGH) as u32;
     let high = (distance / HIGH) as u32;
-    [start, len, sign, low, high, 0, 0, 0]
+    [start, len, flag_code(negative), low, high, 0, 0, 0]
 }
 
+#[tactic(auto, unfolding(table::specs::Records::member_record))]
 pub fn member_record(start: u32, len: u32, offset: u32, kind: u32, word: Word) -> [u32; 8]
     ensures { result ≡ member_record start len offset kind word }
 {
-    let said = word_code(word);
-    [start, len, offset, kind, 0, said, 0, 0]
+    [start, len, offset, kind, 0, word_code(word), 0, 0]
 }

@@ -1,6 +1,7 @@
 -- Document 01, "Layout sheets": what the fields of a line say.
 use Rattle.std.specs.Prelude.{Bool, true, false, cond, not, ◌&&◌, List, [], ◌∷◌, ◌++◌, ℕ, zero, suc, ◌+◌, ◌-◌, ◌*◌, ◌/◌, ◌%◌, length, leb, ltb, eqb, ℤ, pos, negsuc}
 use Rattle.std.proofs.Math.Option.{Option, none, some}
+use Rattle.std.specs.List.{list_all}
 use Rattle.text.specs.Text.{minus}
 
 -- ---- answers that may be missing
@@ -64,10 +65,15 @@ signed_of (negsuc n) = minus ∷ decimal_of (suc n)
 
 -- ---- names
 
+abbrev pub is_printable : ℕ → Bool
+is_printable b = leb 33 b && leb b 126
+
 unfoldable pub each_printable : List ℕ → Bool
-each_printable [] = true
-each_printable (b ∷ bs) = leb 33 b && leb b 126 && each_printable bs
+each_printable = list_all is_printable
 
 -- "A name is 1 to 31 bytes in 33..126."
+abbrev pub is_name : List ℕ → Bool
+is_name f = leb 1 (length f) && leb (length f) 31 && each_printable f
+
 unfoldable pub name : List ℕ → Option (List ℕ)
-name f = when (leb 1 (length f) && leb (length f) 31 && each_printable f) f
+name f = when (is_name f) f

@@ -1,14 +1,11 @@
 -- The fields and the lines of a text, by the place where each starts. Past the end of the text a field is empty.
-use Rattle.std.specs.Prelude.{Bool, true, false, cond, ◌&&◌, ◌||◌, List, [], ◌∷◌, ℕ, ◌+◌, ◌^◌, length, get_or, drop, leb, ltb, eqb, ℤ, pos, negsuc}
-use Rattle.std.proofs.Math.Option.{Option, none, some}
+use Rattle.std.specs.Prelude.{Bool, true, false, cond, ◌&&◌, ◌||◌, List, [], ◌∷◌, ℕ, ◌+◌, ◌^◌, length, get_or, drop, ltb, eqb, ℤ, pos, negsuc, Option, Some, None}
+use Rattle.std.proofs.Math.Option as math
+use Rattle.std.proofs.Math.Option.{none, some}
 use Rattle.text.specs.Text.{tab, newline, split}
 use Rattle.text.specs.Field.{number, enum_number, name}
 use Rattle.text.specs.declared.Field.{Field}
-use Rattle.text.specs.declared.Field.TheVariants.{Number, Fault}
-use Rattle.text.specs.declared.Name.{Name}
-use Rattle.text.specs.declared.Name.TheVariants.{Text, Fault as NoName}
 use Rattle.text.specs.declared.Whole.{Whole}
-use Rattle.text.specs.declared.Whole.TheVariants as whole
 
 -- ---- fields and lines
 
@@ -56,27 +53,29 @@ lines_after s q = cond (ltb q (length s)) (split newline (drop (q + 1) s)) []
 
 -- ---- what the field at a place says, with its end
 
-abbrev pub as_field : Option ℕ → ℕ → Field
-as_field (some n) e = Number n e
-as_field none e = Fault
+-- a field that says so and ends at e, if it says anything
+abbrev pub as_field : {A : Type 0} → math.Option A → ℕ → Option (Field A)
+as_field (some a) e = Some (record { value = a; end = e })
+as_field none e = None
 
-unfoldable pub number_at : List ℕ → ℕ → Field
+unfoldable pub number_at : List ℕ → ℕ → Option (Field ℕ)
 number_at s at = as_field (number (field_at s at)) (field_end s at)
 
-abbrev pub as_name : Option (List ℕ) → ℕ → Name
-as_name (some t) e = Text e
-as_name none e = NoName
+-- of a name only its end
+abbrev pub as_name : math.Option (List ℕ) → ℕ → Option ℕ
+as_name (some t) e = Some e
+as_name none e = None
 
-unfoldable pub name_at : List ℕ → ℕ → Name
+unfoldable pub name_at : List ℕ → ℕ → Option ℕ
 name_at s at = as_name (name (field_at s at)) (field_end s at)
 
 -- an enum's number by its sign and its distance from 0, or from -1 where it is negative: from -2^63 up to 2^64 - 1, outside of which no base has it
-abbrev pub as_whole : Option ℤ → ℕ → Whole
-as_whole (some (pos n)) e = cond (ltb n (2 ^ 64)) (whole.Number false n e) whole.Fault
-as_whole (some (negsuc n)) e = cond (ltb n (2 ^ 63)) (whole.Number true n e) whole.Fault
-as_whole none e = whole.Fault
+abbrev pub as_whole : math.Option ℤ → ℕ → Option (Field Whole)
+as_whole (some (pos n)) e = cond (ltb n (2 ^ 64)) (Some (record { value = record { negative = false; distance = n }; end = e })) None
+as_whole (some (negsuc n)) e = cond (ltb n (2 ^ 63)) (Some (record { value = record { negative = true; distance = n }; end = e })) None
+as_whole none e = None
 
-unfoldable pub whole_at : List ℕ → ℕ → Whole
+unfoldable pub whole_at : List ℕ → ℕ → Option (Field Whole)
 whole_at s at = as_whole (enum_number (field_at s at)) (field_end s at)
 
 -- two texts are the same, byte by byte

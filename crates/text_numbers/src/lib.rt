@@ -7,73 +7,61 @@ ghost use Rattle.text_numbers.specs.Limited.{decimal_at};
 
 use text::{Field, Whole, field_end, is_byte};
 
-// A decimal number, and where its field ends.
-#[derive(Clone, Copy)]
-enum Decimal {
-    Value(u64, usize),
-    Fault,
-}
-
 // The decimal number of a field, where it is at most limit.
-fn decimal_at(s: &[u8], at: usize, limit: u64) -> Decimal
+fn decimal_at(s: &[u8], at: usize, limit: u64) -> Option<Field<u64>>
     requires { 9 ≤ limit }
     ensures { result ≡ decimal_at limit s.now at }
 {
     let end = field_end(s, at);
     if end == at {
-        return Decimal::Fault;
+        return None;
     }
-    if s[at] == 48 {
-        if end - at == 1 {
-            return Decimal::Value(0, end);
-        }
-        return Decimal::Fault;
+    if s[at] == b'0' {
+        return (end - at == 1).then_some(Field { value: 0, end });
     }
-    let mut v: u64 = 0;
-    let mut i = at;
-    while i < end {
+    let mut value: u64 = 0;
+    for i in at..end {
         let b = s[i];
-        if b < 48 {
-            return Decimal::Fault;
+        if !b.is_ascii_digit() {
+            return None;
         }
-        if 57 < b {
-            return Decimal::Fault;
+        let digit = u64::from(b - b'0');
+        if (limit - digit) / 10 < value {
+            return None;
         }
-        let d = (b - 48) as u64;
-        if (limit - d) / 10 < v {
-            return Decimal::Fault;
-        }
-        v = v * 10 + d;
-        i += 1;
+        value = value * 10 + digit;
     }
-    Decimal::Value(v, end)
+    Some(Field { value, end })
 }
 
 // The number at a place: at most 4,294,967,295.
-pub fn number_at(s: &[u8], at: usize) -> Field
+pub fn number_at(s: &[u8], at: usize) -> Option<Field<u32>>
     ensures { result ≡ number_at s.now at }
 {
-    let Decimal::Value(n, end) = decimal_at(s, at, 4294967295) else {
-        return Field::Fault;
-    };
-    Field::Number(n as u32, end)
+    let Field { value, end } = decimal_at(s, at, 4294967295)?;
+    let value = value as u32;
+    Some(Field { value, end })
 }
 
 // The number of an enum's value at a place: from -2^63 up to 2^64 - 1.
-pub fn whole_at(s: &[u8], at: usize) -> Whole
+pub fn whole_at(s: &[u8], at: usize) -> Option<Field<Whole>>
     ensures { result ≡ whole_at s.now at }
 {
-    if is_byte(s, at, 45) {
-        let Decimal::Value(n, end) = decimal_at(s, at + 1, 9223372036854775808) else {
-            return Whole::Fault;
-        };
-        if n == 0 {
-            return Whole::Fault;
+    if is_byte(s, at, b'-') {
+        let Field { value, end } = decimal_at(s, at + 1, 9223372036854775808)?;
+        if value == 0 {
+            return None;
         }
-        return Whole::Number(true, n - 1, end);
+        let value = Whole {
+            negative: true,
+            distance: value - 1,
+        };
+        return Some(Field { value, end });
     }
-    let Decimal::Value(n, end) = decimal_at(s, at, 18446744073709551615) else {
-        return Whole::Fault;
+    let Field { value, end } = decimal_at(s, at, 18446744073709551615)?;
+    let value = Whole {
+        negative: false,
+        distance: value,
     };
-    Whole::Number(false, n, end)
+    Some(Field { value, end })
 }

@@ -1,13 +1,11 @@
--- Digits written from the last one up, and bytes written one by one. Assumes nothing.
-use borrow.Author.Rules.{rules}
+-- How many digits a number has, and digits written from the last one up. Assumes nothing.
 use mathlib.Core.Path.{◌≡◌, refl, sym, ap, ap₂, ◌∙◌}
 use mathlib.Core.List.{List, [], ◌∷◌, ◌++◌, append_assoc}
-use Prim.Native.Nat.{ℕ, zero, suc, ◌+◌, ◌-◌, ◌/◌, ◌%◌, ◌<◌, ◌≤◌}
-use native.Mathlib.Nat.{le_of_eq, add-suc}
-use native.Mathlib.Numerals.{add-one}
+use Prim.Native.Nat.{ℕ, zero, suc, ◌+◌, ◌-◌, ◌*◌, ◌/◌, ◌%◌, ◌^◌, ◌<◌, ◌≤◌}
+use native.Mathlib.Nat.{le_of_eq, add-suc, pow-suc, one-le-pow}
 use native.Mathlib.Omega.{arith}
-use lib.ListN.{length, get_or, set, take, drop, length-append, length-set}
-use lib.Seq.{paste, paste-zero, paste-suc, take_all, take-set-le, drop-cons, get_or-set_same, drop-set-lt, append_snoc}
+use lib.ListN.{length, set, take, drop, length-append, length-set}
+use lib.Seq.{paste, take_all, take-set-le, drop-cons, get_or-set_same, drop-set-lt, append_snoc}
 use Rattle.text.specs.Field.{decimal_of}
 use Rattle.text.proofs.Decimals.{by_digits, decimal_small, decimal_large, length_small, length_large}
 
@@ -57,28 +55,14 @@ digit_written d w at i m inv h l =
     let p : i ≡ suc (i - 1) = omega arith in
     paste_last d at (i - 1) (last_digits (i - 1) (m / 10)) (48 + m % 10) (length_last (i - 1) (m / 10)) (omega arith) ∙ (rw p at inv)
 
--- a turn of the loop that copies
-pub byte_written : (d₀ d : List ℕ) (at : ℕ) (w : List ℕ) (k : ℕ) → d ≡ paste d₀ at w k → at + k < length d₀ → k < length w
-    → set d (at + k) (get_or w k 0) ≡ paste d₀ at w (k + 1)
-byte_written d₀ d at w k inv h l = rw (inv, add-one) (paste-suc d₀ at w k 0 h l)
+-- as many digits as the largest power of ten within n has
+pub length_power : (k n : ℕ) → 10 ^ k ≤ n → n < 10 * 10 ^ k → length (decimal_of n) ≡ k + 1
+length_power zero n l h = omega (arith, length_small n (omega arith))
+length_power (suc k) n l h =
+    let p : 10 ^ suc k ≡ 10 ^ k * 10 = pow-suc 10 k in
+    let o : 1 ≤ 10 ^ k = one-le-pow k 10 (omega arith) in
+    omega (arith, length_large n (omega arith), length_power k (n / 10) (omega arith) (omega arith))
 
--- ---- what the loops have still to do
-
-module _ (m k l : ℕ) (inv : k + length (decimal_of m) ≡ l + 1) where
-  pub length_next : 9 < m → k + 1 + length (decimal_of (m / 10)) ≡ l + 1
-  length_next h = omega (arith, length_large m h)
-
-  pub length_done : m ≤ 9 → k ≡ l
-  length_done h = omega (arith, length_small m (omega arith))
-
+-- where the loop begins
 pub digits_start : (d : List ℕ) (at n l : ℕ) → l ≡ length (decimal_of n) → paste d at (last_digits l n) l ≡ paste d at (decimal_of n) (length (decimal_of n))
 digits_start d at n l e = rw (e, all_digits)
-
-pub digits_done : (d w : List ℕ) (at i m : ℕ) → paste d at (last_digits i m) i ≡ w → i ≡ 0 → d ≡ w
-unfolding last_digits
-digits_done d w at i m inv e = paste-zero d at [] ∙ (rw e at inv)
-
-pub bytes_done : (d₀ d : List ℕ) (at : ℕ) (w : List ℕ) (k : ℕ) → d ≡ paste d₀ at w k → k ≡ length w → d ≡ paste d₀ at w (length w)
-bytes_done d₀ d at w k inv e = rw e at inv
-
-pub ruleset length_laws = (rules, length_next, length_done)

@@ -9,13 +9,7 @@ ghost use Rattle.text.specs.Field.{decimal_of};
 pub fn decimal_len(n: u64) -> usize
     ensures { result ≡ length (decimal_of n) }
 {
-    let mut m = n;
-    let mut k: usize = 1;
-    while 9 < m {
-        m = m / 10;
-        k += 1;
-    }
-    k
+    if n == 0 { 1 } else { n.ilog10() as usize + 1 }
 }
 
 // Writes n in decimal, and answers the next place.
@@ -25,11 +19,9 @@ pub fn put_decimal(out: &mut [u8], at: usize, n: u64) -> usize
 {
     let len = decimal_len(n);
     let mut m = n;
-    let mut i = len;
-    while 0 < i {
-        i -= 1;
-        out[at + i] = 48 + (m % 10) as u8;
-        m = m / 10;
+    for i in (0..len).rev() {
+        out[at + i] = b'0' + (m % 10) as u8;
+        m /= 10;
     }
     at + len
 }
@@ -39,10 +31,7 @@ pub fn put_bytes(out: &mut [u8], at: usize, bytes: &[u8]) -> usize
     requires { at + length bytes.now ≤ length out.old }
     ensures { (result ≡ at + length bytes.now) × (out.new ≡ paste out.old at bytes.now (length bytes.now)) }
 {
-    let mut k: usize = 0;
-    while k < bytes.len() {
-        out[at + k] = bytes[k];
-        k += 1;
-    }
-    at + k
+    let end = at + bytes.len();
+    out[at..end].copy_from_slice(bytes);
+    end
 }

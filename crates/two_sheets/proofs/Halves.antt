@@ -1,21 +1,23 @@
 -- The two sheets in the two halves of the table, as each half is lent to its reader. Assumes nothing.
+use Rattle.std.specs.Prelude.{Result, Ok, Err, MatchResult, IsErrAnd}
 use mathlib.Core.Path.{◌≡◌, refl, sym, ap, subst, ◌∙◌}
 use mathlib.Core.List.{List, [], ◌++◌, append-nil}
-use Prim.Native.Nat.{ℕ, ◌+◌, ◌-◌, ◌≤◌}
+use Prim.Native.Nat.{ℕ, ◌-◌, ◌≤◌}
 use native.Mathlib.Omega.{arith}
 use borrow.Rule.Slice.PartMut.{put_mid}
-use lib.ListN.{length, take, drop, length-append, length-take, length-drop, drop_of_length-le}
+use lib.ListN.{length, take, drop, length-append, length-drop, drop_of_length-le}
 use lib.Seq.{take_all, take_at, drop_at, length-take-le}
-use Rattle.sheet_steps.specs.declared.SheetRead.{SheetRead}
-use Rattle.sheet_steps.specs.declared.SheetRead.TheVariants as read
-use Rattle.sheet_steps.specs.Read.{StandsAfter, ReadsSheet}
+use Rattle.sheet_steps.specs.declared.Counts.{Counts}
+use Rattle.sheet_steps.specs.declared.FaultyLine.{FaultyLine}
+use Rattle.sheet_steps.specs.Read.{ReadsSheet}
 use Rattle.sheet_steps.proofs.Types.{sheet_fault, sheet_type, type_formed}
-use Rattle.two_sheets.specs.declared.Sheets.{Sheets}
-use Rattle.two_sheets.specs.declared.Sheets.TheVariants.{Types, Source, Destination}
+use Rattle.two_sheets.specs.declared.TypeNumbers.{TypeNumbers}
+use Rattle.two_sheets.specs.declared.SheetFault.{SheetFault}
+use Rattle.two_sheets.specs.declared.SheetFault.TheVariants.{Source, Destination}
 use Rattle.two_sheets.specs.TwoSheets.{first, second, IsSheet, SourceRead, ReadAs, SheetsRead, Both}
 
-is_sheet : (t w : List ℕ) (n m : ℕ) → ReadsSheet t w (read.Types n m) → IsSheet t w (n - 1)
-is_sheet t w n m r = record { type = sheet_type t w n m r; formed = type_formed t w n m r; inside = r.inside }
+is_sheet : (t w : List ℕ) (c : Counts) → ReadsSheet t w (Ok c) → IsSheet t w (c.types - 1)
+is_sheet t w c r = record { type = sheet_type t w c r; formed = type_formed t w c r; inside = r.inside }
 
 -- the first half was lent, and holds e now
 module _ (t e : List ℕ) (words : length t ≡ 8192) (half : length e ≡ 4096) where
@@ -47,40 +49,44 @@ module _ (t e : List ℕ) (words : length t ≡ 8192) (half : length e ≡ 4096)
   back_length : length now_holds ≡ 8192
   back_length = length-append (take 4096 t) _ ∙ rw (nothing_behind, append-nil e) (omega (arith, four))
 
-module _ (ss ds t e : List ℕ) (words : length t ≡ 8192) {r : SheetRead} where
-  pub source_read : (n m : ℕ) → ReadsSheet ss e r → r ≡ read.Types n m → SourceRead ss (e ++ drop 4096 t) n m
-  source_read n m reads eq =
-      let here : ReadsSheet ss e (read.Types n m) = subst (ReadsSheet ss e) eq reads in
+module _ (ss ds t e : List ℕ) (words : length t ≡ 8192) {r : Result Counts FaultyLine} where
+  pub source_read : (c : Counts) → ReadsSheet ss e r → r ≡ Ok c → SourceRead ss (e ++ drop 4096 t) c.types c.rows
+  source_read c reads eq =
+      let here : ReadsSheet ss e (Ok c) = subst (ReadsSheet ss e) eq reads in
       record {
         some = here.stands.some;
-        is = subst (λ (w : List ℕ). IsSheet ss w (n - 1)) (sym (front_first t e words reads.words)) (is_sheet ss e n m here);
+        is = subst (λ (w : List ℕ). IsSheet ss w (c.types - 1)) (sym (front_first t e words reads.words)) (is_sheet ss e c here);
         words = front_length t e words reads.words;
       }
 
-  pub source_bad : (k : ℕ) → ReadsSheet ss e r → r ≡ read.Faulty k → SheetsRead ss ds (e ++ drop 4096 t) (Source k)
-  source_bad k reads eq = record { is = sheet_fault ss e k (subst (ReadsSheet ss e) eq reads); words = front_length t e words reads.words }
+  pub source_bad : (f : FaultyLine) → ReadsSheet ss e r → r ≡ Err f → SheetsRead ss ds (e ++ drop 4096 t) (Err (Source f.0))
+  source_bad f reads eq = record { is = sheet_fault ss e f (subst (ReadsSheet ss e) eq reads); words = front_length t e words reads.words }
 
-module _ (ss ds t e : List ℕ) (n m : ℕ) (source : SourceRead ss t n m) {r : SheetRead} (reads : ReadsSheet ds e r) where
+module _ (ss ds t e : List ℕ) (n m : ℕ) (source : SourceRead ss t n m) {r : Result Counts FaultyLine} (reads : ReadsSheet ds e r) where
   kept : IsSheet ss (first (put_mid 4096 (length t - 4096) t e)) (n - 1)
   kept = subst (λ (w : List ℕ). IsSheet ss w (n - 1)) (sym (back_first t e source.words reads.words)) source.is
 
-  pub some_types : (k m' : ℕ) → r ≡ read.Types k m' → 1 ≤ k
-  some_types k m' eq = (subst (ReadsSheet ds e) eq reads).stands.some
-
-  pub both_types : (k m' : ℕ) → r ≡ read.Types k m' → SheetsRead ss ds (put_mid 4096 (length t - 4096) t e) (Types (n - 1) (k - 1))
-  both_types k m' eq =
+  pub both_types : (c : Counts) → r ≡ Ok c → SheetsRead ss ds (put_mid 4096 (length t - 4096) t e) (Ok (record { source = n - 1; destination = c.types - 1 }))
+  both_types c eq =
       record {
         is = (
           kept,
-          subst (λ (w : List ℕ). IsSheet ds w (k - 1)) (sym (back_second t e source.words reads.words))
-              (is_sheet ds e k m' (subst (ReadsSheet ds e) eq reads)),
+          subst (λ (w : List ℕ). IsSheet ds w (c.types - 1)) (sym (back_second t e source.words reads.words))
+              (is_sheet ds e c (subst (ReadsSheet ds e) eq reads)),
         );
         words = back_length t e source.words reads.words;
       }
 
-  pub destination_bad : (k : ℕ) → r ≡ read.Faulty k → SheetsRead ss ds (put_mid 4096 (length t - 4096) t e) (Destination k)
-  destination_bad k eq =
-      record { is = ((n - 1, kept), sheet_fault ds e k (subst (ReadsSheet ds e) eq reads)); words = back_length t e source.words reads.words }
+  pub destination_bad : (f : FaultyLine) → r ≡ Err f → SheetsRead ss ds (put_mid 4096 (length t - 4096) t e) (Err (Destination f.0))
+  destination_bad f eq =
+      record { is = ((n - 1, kept), sheet_fault ds e f (subst (ReadsSheet ds e) eq reads)); words = back_length t e source.words reads.words }
+
+-- ---- errors
+
+-- where s has the error d, which comes from the one of r
+pub mapped : {T E D : Type 0} (r : Result T E) (s : Result T D) (G : E → D → Type 0) {d : D} → MatchResult r (λ x. s ≡ Ok x) (λ e. IsErrAnd s (G e)) → s ≡ Err d → (e : E) × (r ≡ Err e) × G e d
+mapped {T} {E} {D} (Ok x) s G {d} h q = let no : ◌≡◌ {A = Result T D} (Ok x) (Err d) = sym h ∙ q in cc
+mapped (Err e) s G h q = (e, refl, subst (λ x. IsErrAnd x (G e)) q h)
 
 -- ---- the two types, each from its half
 
@@ -95,5 +101,5 @@ pub types_both : (ss ds t : List ℕ) (i k : ℕ) → IsSheet ss (first t) i × 
 types_both ss ds t i k sheets =
     record { source = sheets.0.formed; destination = sheets.1.formed; source_rows = sheets.0.inside; destination_rows = sheets.1.inside }
 
-pub types_read : (ss ds w : List ℕ) (r : Sheets) → SheetsRead ss ds w r → (i k : ℕ) → r ≡ Types i k → IsSheet ss (first w) i × IsSheet ds (second w) k
-types_read ss ds w r reads i k e = subst (ReadAs ss ds w) e reads.is
+pub types_read : (ss ds w : List ℕ) (r : Result TypeNumbers SheetFault) → SheetsRead ss ds w r → (t : TypeNumbers) → r ≡ Ok t → IsSheet ss (first w) t.source × IsSheet ds (second w) t.destination
+types_read ss ds w r reads t e = subst (ReadAs ss ds w) e reads.is

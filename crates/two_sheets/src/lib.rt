@@ -2,49 +2,54 @@
 #![tactic(auto)]
 
 ghost use Rattle.std.specs.Prelude.{◌≡◌, length};
-ghost use Rattle.two_sheets.specs.TwoSheets.{SourceRead, SheetsRead};
+ghost use Rattle.two_sheets.specs.TwoSheets.{refusal, SheetsRead};
 
+use answer::Answer;
 use reading::read_sheet;
-use sheet_steps::SheetRead;
 use table::HALF;
 
-// Two sheets read into the table: their type numbers; or the first faulty line of the first faulty one.
+// The numbers of the two sheets' types, each in its half of the table.
 #[derive(Clone, Copy)]
-pub enum Sheets {
-    Types(usize, usize),
+pub struct TypeNumbers {
+    pub source: usize,
+    pub destination: usize,
+}
+
+// The first faulty line of the first faulty sheet.
+#[derive(Clone, Copy)]
+pub enum SheetFault {
     Source(u32),
     Destination(u32),
 }
 
-// The destination sheet, where the source's types and rows stand in the first half.
-fn read_destination(
-    source_sheet: &[u8],
-    destination_sheet: &[u8],
-    table: &mut [u32],
-    types: u32,
-    rows: u32,
-) -> Sheets
-    requires { SourceRead source_sheet.now table.old types rows }
-    ensures { SheetsRead source_sheet.now destination_sheet.now table.new result }
-{
-    match read_sheet(destination_sheet, &mut table[HALF..]) {
-        SheetRead::Types(k, _) => Sheets::Types((types - 1) as usize, (k - 1) as usize),
-        SheetRead::Faulty(line) => Sheets::Destination(line),
+impl From<SheetFault> for Answer {
+    ghost from_gives = { λ fault answer. answer ≡ refusal fault };
+
+    fn from(fault: SheetFault) -> Answer {
+        match fault {
+            SheetFault::Source(line) => Answer::Source(line),
+            SheetFault::Destination(line) => Answer::Destination(line),
+        }
     }
 }
 
-pub fn read_sheets(source_sheet: &[u8], destination_sheet: &[u8], table: &mut [u32]) -> Sheets
+// Two sheets read into the table: the numbers of their types there.
+pub fn read_sheets(
+    source_sheet: &[u8],
+    destination_sheet: &[u8],
+    table: &mut [u32],
+) -> Result<TypeNumbers, SheetFault>
     requires { length table.old ≡ 8192 }
     ensures { SheetsRead source_sheet.now destination_sheet.now table.new result }
 {
-    match read_sheet(source_sheet, &mut table[..HALF]) {
-        SheetRead::Types(types, rows) => read_destination(
-            source_sheet,
-            destination_sheet,
-            table,
-            types,
-            rows,
-        ),
-        SheetRead::Faulty(line) => Sheets::Source(line),
-    }
+    let source = read_sheet(source_sheet, &mut table[..HALF]).map_err(|fault| SheetFault::Source(
+        fault.0,
+    ))?;
+    let destination = read_sheet(destination_sheet, &mut table[HALF..]).map_err(
+        |fault| SheetFault::Destination(fault.0),
+    )?;
+    Ok(TypeNumbers {
+        source: (source.types - 1) as usize,
+        destination: (destination.types - 1) as usize,
+    })
 }

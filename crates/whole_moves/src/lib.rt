@@ -45,8 +45,7 @@ pub fn move_each(
     let half = w.half;
     let mut x: usize = 0;
     let mut y: usize = 0;
-    let mut i: usize = 0;
-    while i < count {
+    for i in 0..count {
         let c = load(&src[x..], ByteAt(source_byte), ByteAt(n), from);
         store(
             &mut dst[y..],
@@ -57,7 +56,6 @@ pub fn move_each(
         );
         x += source_size;
         y += destination_size;
-        i += 1;
     }
 }
 

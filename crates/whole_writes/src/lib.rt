@@ -54,10 +54,8 @@ pub fn writes_each_byte(
     requires { 2 * entries ≤ length plan.now }
     ensures { result ≡ true → WritesEach destination_size plan.now entries destination_half.now }
 {
-    let mut i = entries;
     let mut end = destination_size;
-    while 0 < i {
-        i -= 1;
+    for i in (0..entries).rev() {
         let e = entry(plan, i);
         let bytes = bytes_anew(destination_half, e.destination);
         if bytes == 0 {

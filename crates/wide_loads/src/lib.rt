@@ -21,10 +21,8 @@ fn load_each_64(
     requires { (count ≤ length t.old) × (size ≤ 8) × (byte + size ≤ record_size) × (count * record_size ≤ length src.now) }
     ensures { (i : ℕ) → i < count → get_or t.new i 0 ≡ container_in order size byte record_size src.now i }
 {
-    let mut i: usize = 0;
-    while i < count {
+    for i in 0..count {
         t[i] = load(&src[i * record_size..], ByteAt(byte), ByteAt(size), order);
-        i += 1;
     }
 }
 
@@ -33,10 +31,8 @@ fn load_bytes_64(src: &[u8], byte: usize, count: usize, record_size: usize, t: &
     requires { (count ≤ length t.old) × (byte + 1 ≤ record_size) × (count * record_size ≤ length src.now) }
     ensures { (order : Order) (i : ℕ) → i < count → get_or t.new i 0 ≡ container_in order 1 byte record_size src.now i }
 {
-    let mut i: usize = 0;
-    while i < count {
+    for i in 0..count {
         t[i] = src[i * record_size + byte] as u64;
-        i += 1;
     }
 }
 
@@ -66,11 +62,9 @@ fn load_turned_64(src: &[u8], byte: usize, count: usize, record_size: usize, t: 
     requires { (count ≤ length t.old) × (byte + 2 ≤ record_size) × (count * record_size ≤ length src.now) }
     ensures { (i : ℕ) → i < count → get_or t.new i 0 ≡ container_in Order.BE 2 byte record_size src.now i }
 {
-    let mut i: usize = 0;
-    while i < count {
+    for i in 0..count {
         let c = load(&src[i * record_size..], ByteAt(byte), ByteAt(2), Order::LE);
         t[i] = turned(c);
-        i += 1;
     }
 }
 

@@ -22,11 +22,9 @@ fn store_each_64(
     ensures { dst.new ≡ each_record (λ i x. merge_in order size byte 0 (get_or t.now i 0) x) record_size count dst.old }
 {
     let mut start: usize = 0;
-    let mut i: usize = 0;
-    while i < count {
+    for i in 0..count {
         store(&mut dst[start..], ByteAt(byte), ByteAt(size), order, t[i]);
         start += record_size;
-        i += 1;
     }
 }
 

@@ -10,8 +10,5 @@ use Rattle.blocks.proofs.Over.{Counts}
 use Rattle.block_columns.proofs.block_raised.Given as goal
 
 abbrev pub invariant-loop-i : goal.invariant-loop-i
-invariant-loop-i l = (l.i ≤ l.entries) × (length l.slots ≡ length l.initial.slots) × (length l.narrow ≡ length l.initial.narrow) × (length l.wide ≡ length l.initial.wide) × (l.raised ≤ l.i * 65536) × Kept l.slots l.source_half l.destination_half
+invariant-loop-i l = (length l.slots ≡ length l.initial.slots) × (length l.narrow ≡ length l.initial.narrow) × (length l.wide ≡ length l.initial.wide) × (l.raised ≤ l.i * 65536) × Kept l.slots l.source_half l.destination_half
     × ((d : ℕ) (words : List ℕ) (p : Ready l.source_size d l.plan l.entries l.source_half l.destination_half words) → Columned l.tables l.plan l.entries words → TablesKept l.tables l.source_half p.source_text l.destination_half p.destination_text → Counts p l.src l.count l.i l.raised)
-
-abbrev pub decreases-loop-i : goal.decreases-loop-i
-decreases-loop-i l = l.entries - l.i

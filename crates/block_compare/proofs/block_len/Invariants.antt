@@ -6,8 +6,5 @@ use Rattle.comparing.specs.Comparing.{TwoLogs, text_between}
 use Rattle.block_compare.proofs.block_len.Given as goal
 
 abbrev pub invariant-loop-i : goal.invariant-loop-i
-invariant-loop-i l = (l.from ≤ l.i) × (l.i ≤ l.to) × (length l.staging ≡ length l.initial.staging) × (l.len ≤ 344064 * (l.i - l.from))
+invariant-loop-i l = (length l.staging ≡ length l.initial.staging) × (l.len ≤ 344064 * (l.i - l.from))
     × ((g : TwoLogs l.x (length l.first) (length l.second) l.first_sheet l.first_half l.second_sheet l.second_half l.plan l.words) → l.len ≡ length (text_between g l.first l.second l.from l.i))
-
-abbrev pub decreases-loop-i : goal.decreases-loop-i
-decreases-loop-i l = l.to - l.i

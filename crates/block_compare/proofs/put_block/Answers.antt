@@ -19,32 +19,29 @@ returns-then-block_alike c =
 pub loop-k-init : goal.loop-k-init
 loop-k-init c =
     let a = c.args in
-    (le_refl _, c.requires.1, refl, λ g. start_written a.first.now a.second.now g _ _ _)
+    (refl, λ g. start_written a.first.now a.second.now g _ _ _)
 
 pub put_one-next-requires : goal.put_one-next-requires
 put_one-next-requires c =
     let a = c.args in
     let l = c.loop-k in
-    (c.requires.0, omega (arith, c.requires.2, c.loop-k-test.true), omega (arith, c.requires.4, l.invariant.2, c.block_alike.auto.staging), λ g. part_room {x = a.x} {ss = a.first_sheet.now} {ws = a.first_half.now} {ds = a.second_sheet.now} {wd = a.second_half.now} {plan = a.plan.now} {words = a.words.now} a.first.now a.second.now g a.list.now a.at a.from l.k (l.k + 1) a.to (c.requires.5 g) l.invariant.0 (omega arith) (omega (arith, c.loop-k-test.true)) l.list l.next (l.invariant.3 g))
-
-pub overflow_add-k : goal.overflow_add-k
-overflow_add-k c = omega (arith, c.requires.0.few, c.requires.2, c.loop-k-test.true)
+    (c.requires.0, omega (arith, c.requires.2, c.loop-k-test.true), omega (arith, c.requires.4, l.invariant.0, c.block_alike.auto.staging), λ g. part_room {x = a.x} {ss = a.first_sheet.now} {ws = a.first_half.now} {ds = a.second_sheet.now} {wd = a.second_half.now} {plan = a.plan.now} {words = a.words.now} a.first.now a.second.now g a.list.now a.at a.from l.k (l.k + 1) a.to (c.requires.5 g) l.auto.k (omega arith) (omega (arith, c.loop-k-test.true)) l.list l.next (l.invariant.1 g))
 
 pub loop-k-preserved : goal.loop-k-preserved
 loop-k-preserved c =
     let a = c.args in
     let l = c.loop-k in
     let o = c.put_one-next in
-    (omega (arith, l.invariant.0), omega (arith, c.loop-k-test.true), ◌∙◌ {b = length l.staging} o.auto.staging l.invariant.2, λ g. wrote_on a.first.now a.second.now g a.list.now a.at a.from l.k (l.k + 1) a.to (c.requires.5 g) l.invariant.0 (omega arith) (omega (arith, c.loop-k-test.true)) l.list l.next (l.invariant.3 g) o.new.list o.result (o.ensures g))
+    (◌∙◌ {b = length l.staging} o.auto.staging l.invariant.0, λ g. wrote_on a.first.now a.second.now g a.list.now a.at a.from l.k (l.k + 1) a.to (c.requires.5 g) l.auto.k (omega arith) (omega (arith, c.loop-k-test.true)) l.list l.next (l.invariant.1 g) o.new.list o.result (o.ensures g))
 
 pub shape_of-list : goal.shape_of-list
-shape_of-list c = (c.loop-k.invariant.3 c.requires.0).same
+shape_of-list c = (c.loop-k.invariant.1 c.requires.0).same
 
 pub shape_of-staging : goal.shape_of-staging
-shape_of-staging c = c.loop-k.invariant.2 ∙ c.block_alike.auto.staging
+shape_of-staging c = c.loop-k.invariant.0 ∙ c.block_alike.auto.staging
 
 pub returns : goal.returns
 returns c =
     let a = c.args in
     let l = c.loop-k in
-    λ g. end_written a.first.now a.second.now g _ _ _ _ _ _ _ l.invariant.1 c.loop-k-test.false (l.invariant.3 g)
+    λ g. end_written a.first.now a.second.now g _ _ _ _ _ _ _ (c.loop-k.auto.k-end c.requires.1) c.loop-k-test.false (l.invariant.1 g)

@@ -1,5 +1,5 @@
 -- `column_caps::cap_each_31` meets its contract. The loop's invariant: the first i numbers are made, those from i on as they were, and those outside counted. Assumes nothing.
-use Rattle.std.proofs.Common.{◌≡◌, ◌-◌, arith}
+use Rattle.std.proofs.Common.{◌≡◌, arith}
 use Rattle.column_steps.proofs.Making.{has_place, ones_fit, made_start, count_start, made_turn, count_turn, over_counts, bias_below, cap_end}
 use Rattle.column_caps.proofs.cap_each_31.Goals as goal
 
@@ -21,7 +21,7 @@ overflow_cast-high c = record { fits = c.requires.1.high }
 pub loop-i-init : goal.loop-i-init
 loop-i-init c =
     let a = c.args in
-    (omega arith, made_start a.w 0 a.w.high a.t.now, count_start a.w 0 a.w.high a.t.now)
+    (made_start a.w 0 a.w.high a.t.now, count_start a.w 0 a.w.high a.t.now)
 
 pub bias_32-b-requires : goal.bias_32-b-requires
 bias_32-b-requires c = c.requires.1.down
@@ -40,17 +40,16 @@ loop-i-preserved c =
     let l = c.loop-i in
     let a = c.args in
     let b = c.bias_32-b.ensures in (
-      omega arith,
-      made_turn a.w a.t.now l.t l.i b 0 a.w.high l.invariant.1 (omega arith) c.cap_31.ensures c.place_32.ensures,
-      count_turn a.w a.t.now l.t l.i b 0 a.w.high (l.invariant.1.2 l.i (omega arith)) l.invariant.2 (over_counts a.w.high _ _ c.over_31-raised.ensures),
+      made_turn a.w a.t.now l.t l.i b 0 a.w.high l.invariant.0 (omega arith) c.cap_31.ensures c.place_32.ensures,
+      count_turn a.w a.t.now l.t l.i b 0 a.w.high (l.invariant.0.2 l.i (omega arith)) l.invariant.1 (over_counts a.w.high _ _ c.over_31-raised.ensures),
     )
 
 pub shape_of-t : goal.shape_of-t
-shape_of-t c = c.loop-i.invariant.1.0
+shape_of-t c = c.loop-i.invariant.0.0
 
 pub returns : goal.returns
 returns c =
     let l = c.loop-i in
     let a = c.args in
     let end : l.i ≡ a.count = omega arith in
-    cap_end a.w a.t.now l.t end c.requires.3 l.invariant.1 l.invariant.2
+    cap_end a.w a.t.now l.t end c.requires.3 l.invariant.0 l.invariant.1

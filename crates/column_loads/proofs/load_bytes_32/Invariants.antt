@@ -1,13 +1,7 @@
 -- `column_loads::load_bytes_32` meets its contract. The loop's invariant: the first i bytes are there. Assumes nothing.
-use mathlib.Core.Path.{◌≡◌}
-use Prim.Native.Nat.{◌≤◌, ◌-◌}
-use lib.ListN.{length}
 use Rattle.bits.specs.declared.Order.{Order}
 use Rattle.blocks.proofs.Turns.{Loaded}
 use Rattle.column_loads.proofs.load_bytes_32.Given as goal
 
 abbrev pub invariant-loop-i : goal.invariant-loop-i
-invariant-loop-i l = (l.i ≤ l.count) × (length l.t ≡ length l.initial.t) × ((order : Order) → Loaded order 1 l.byte l.record_size l.src l.i l.t)
-
-abbrev pub decreases-loop-i : goal.decreases-loop-i
-decreases-loop-i l = l.count - l.i
+invariant-loop-i l = (order : Order) → Loaded order 1 l.byte l.record_size l.src l.i l.t

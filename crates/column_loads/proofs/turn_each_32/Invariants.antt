@@ -1,10 +1,6 @@
 -- `column_loads::turn_each_32` meets its contract. The loop's invariant: the first i numbers are turned round, and those from i on as they were. Assumes nothing.
-use Prim.Native.Nat.{◌-◌, ◌≤◌}
 use Rattle.column_loads.proofs.TwoBytes.{Turned}
 use Rattle.column_loads.proofs.turn_each_32.Given as goal
 
 abbrev pub invariant-loop-i : goal.invariant-loop-i
-invariant-loop-i l = (l.i ≤ l.count) × Turned l.initial.t l.t l.i
-
-abbrev pub decreases-loop-i : goal.decreases-loop-i
-decreases-loop-i l = l.count - l.i
+invariant-loop-i l = Turned l.initial.t l.t l.i

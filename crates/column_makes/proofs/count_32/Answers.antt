@@ -1,6 +1,5 @@
 -- `column_makes::count_32` meets its contract. The loop's invariant: those of the first i numbers that lie outside are counted. Assumes nothing.
 use mathlib.Core.Path.{◌≡◌, refl}
-use Prim.Native.Nat.{◌-◌}
 use native.Mathlib.Omega.{arith}
 use Rattle.column_steps.proofs.Making.{count_start, count_turn, count_end, none_outside}
 use Rattle.column_makes.proofs.count_32.Goals as goal
@@ -10,35 +9,20 @@ returns-then-w c =
     let a = c.args in
     none_outside a.w a.t.now a.count (omega arith) (omega arith)
 
-pub overflow_cast-half : goal.overflow_cast-half
-overflow_cast-half c = record { fits = c.requires.1.half }
-
-pub overflow_cast-mask : goal.overflow_cast-mask
-overflow_cast-mask c = record { fits = c.requires.1.mask }
-
-pub overflow_cast-low : goal.overflow_cast-low
-overflow_cast-low c = record { fits = c.requires.1.low }
-
-pub overflow_cast-high : goal.overflow_cast-high
-overflow_cast-high c = record { fits = c.requires.1.high }
-
 pub loop-i-init : goal.loop-i-init
 loop-i-init c =
     let a = c.args in
-    (omega arith, count_start a.w a.w.low a.w.high a.t.now)
-
-pub bias_32-requires : goal.bias_32-requires
-bias_32-requires c = c.requires.1.down
+    (count_start a.w a.w.low a.w.high a.t.now)
 
 pub loop-i-preserved : goal.loop-i-preserved
 loop-i-preserved c =
     let l = c.loop-i in
     let a = c.args in
-    (omega arith, count_turn a.w a.t.now a.t.now l.i c.bias_32.ensures a.w.low a.w.high refl l.invariant.1 c.outside_32-raised.ensures)
+    (count_turn a.w a.t.now a.t.now l.i c.bias_32.ensures a.w.low a.w.high refl l.invariant c.outside_32-raised.ensures)
 
 pub returns : goal.returns
 returns c =
     let l = c.loop-i in
     let a = c.args in
     let end : l.i ≡ a.count = omega arith in
-    count_end a.w a.t.now end l.invariant.1
+    count_end a.w a.t.now end l.invariant

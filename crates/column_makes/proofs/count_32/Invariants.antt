@@ -1,10 +1,6 @@
 -- `column_makes::count_32` meets its contract. The loop's invariant: those of the first i numbers that lie outside are counted. Assumes nothing.
-use Prim.Native.Nat.{◌-◌, ◌≤◌}
 use Rattle.column_steps.proofs.Making.{outside_by, Counted}
 use Rattle.column_makes.proofs.count_32.Given as goal
 
 abbrev pub invariant-loop-i : goal.invariant-loop-i
-invariant-loop-i l = (l.i ≤ l.count) × Counted (outside_by l.shift l.half l.mask l.low l.high) l.t l.i l.raised
-
-abbrev pub decreases-loop-i : goal.decreases-loop-i
-decreases-loop-i l = l.count - l.i
+invariant-loop-i l = Counted (outside_by l.shift l.half l.mask l.low l.high) l.t l.i l.raised

@@ -1,6 +1,5 @@
 -- `column_makes::count_64` meets its contract. The loop's invariant: those of the first i numbers that lie outside are counted. Assumes nothing.
 use mathlib.Core.Path.{◌≡◌, refl}
-use Prim.Native.Nat.{◌-◌}
 use native.Mathlib.Omega.{arith}
 use Rattle.column_steps.proofs.Making.{count_start, count_turn, count_end, none_outside}
 use Rattle.column_makes.proofs.count_64.Goals as goal
@@ -13,20 +12,17 @@ returns-then-w c =
 pub loop-i-init : goal.loop-i-init
 loop-i-init c =
     let a = c.args in
-    (omega arith, count_start a.w a.w.low a.w.high a.t.now)
-
-pub bias_64-requires : goal.bias_64-requires
-bias_64-requires c = c.requires.1.down
+    (count_start a.w a.w.low a.w.high a.t.now)
 
 pub loop-i-preserved : goal.loop-i-preserved
 loop-i-preserved c =
     let l = c.loop-i in
     let a = c.args in
-    (omega arith, count_turn a.w a.t.now a.t.now l.i c.bias_64.ensures a.w.low a.w.high refl l.invariant.1 c.outside_64-raised.ensures)
+    (count_turn a.w a.t.now a.t.now l.i c.bias_64.ensures a.w.low a.w.high refl l.invariant c.outside_64-raised.ensures)
 
 pub returns : goal.returns
 returns c =
     let l = c.loop-i in
     let a = c.args in
     let end : l.i ≡ a.count = omega arith in
-    count_end a.w a.t.now end l.invariant.1
+    count_end a.w a.t.now end l.invariant

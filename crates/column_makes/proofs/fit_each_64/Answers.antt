@@ -1,38 +1,27 @@
 -- `column_makes::fit_each_64` meets its contract. The loop's invariant: the first i numbers are made, those from i on as they were, and those outside counted. Assumes nothing.
 use mathlib.Core.Path.{◌≡◌}
-use Prim.Native.Nat.{◌-◌}
 use native.Mathlib.Omega.{arith}
-use Rattle.column_steps.proofs.Making.{has_place, made_start, count_start, made_turn, count_turn, made_end, count_end}
+use Rattle.column_steps.proofs.Making.{made_start, count_start, made_turn, count_turn, made_end, count_end}
 use Rattle.column_makes.proofs.fit_each_64.Goals as goal
 
 pub loop-i-init : goal.loop-i-init
 loop-i-init c =
     let a = c.args in
-    (omega arith, made_start a.w a.w.low a.w.high a.t.now, count_start a.w a.w.low a.w.high a.t.now)
-
-pub bias_64-b-requires : goal.bias_64-b-requires
-bias_64-b-requires c = c.requires.1.down
-
-pub place_64-requires : goal.place_64-requires
-place_64-requires c = has_place 64 c.args.w c.requires.1
+    (made_start a.w a.w.low a.w.high a.t.now, count_start a.w a.w.low a.w.high a.t.now)
 
 pub loop-i-preserved : goal.loop-i-preserved
 loop-i-preserved c =
     let l = c.loop-i in
     let a = c.args in
     let b = c.bias_64-b.ensures in (
-      omega arith,
-      made_turn a.w a.t.now l.t l.i b a.w.low a.w.high l.invariant.1 (omega arith) c.clamp_64.ensures c.place_64.ensures,
-      count_turn a.w a.t.now l.t l.i b a.w.low a.w.high (l.invariant.1.2 l.i (omega arith)) l.invariant.2 c.outside_64-raised.ensures,
+      made_turn a.w a.t.now l.t l.i b a.w.low a.w.high l.invariant.0 (omega arith) c.clamp_64.ensures c.place_64.ensures,
+      count_turn a.w a.t.now l.t l.i b a.w.low a.w.high (l.invariant.0.2 l.i (omega arith)) l.invariant.1 c.outside_64-raised.ensures,
     )
-
-pub shape_of-t : goal.shape_of-t
-shape_of-t c = c.loop-i.invariant.1.0
 
 pub returns : goal.returns
 returns c =
     let l = c.loop-i in
     let a = c.args in
     let end : l.i ≡ a.count = omega arith in
-    let raised = count_end a.w a.t.now end l.invariant.2 in
-    (made_end a.w a.t.now l.t end l.invariant.1, raised.0, raised.1)
+    let raised = count_end a.w a.t.now end l.invariant.1 in
+    (made_end a.w a.t.now l.t end l.invariant.0, raised.0, raised.1)

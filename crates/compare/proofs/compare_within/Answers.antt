@@ -7,16 +7,16 @@ use Rattle.compare.proofs.compare_within.Goals as goal
 pub compare_checked-requires : goal.compare_checked-requires
 compare_checked-requires c =
     let a = c.args in
-    (accepted a.first_sheet.now a.second_sheet.now a.count (length a.first.now) (length a.second.now) _ c.check_logs.ensures.0 c.in-Pass.is, c.check_logs.ensures.1)
+    (accepted a.first_sheet.now a.second_sheet.now a.count (length a.first.now) (length a.second.now) _ c.check_logs.ensures.0 c.in-Ok.is, c.check_logs.ensures.1)
 
-pub returns-in-Refuse : goal.returns-in-Refuse
-returns-in-Refuse c =
+pub returns-in-Err : goal.returns-in-Err
+returns-in-Err c =
     let a = c.args in
-    refuse_left a.first_sheet.now a.second_sheet.now a.count (length a.first.now) (length a.second.now) _ c.check_logs.ensures.0 c.in-Refuse.is a.first.now a.second.now a.list.now
+    refuse_left a.first_sheet.now a.second_sheet.now a.count (length a.first.now) (length a.second.now) _ c.check_logs.ensures.0 c.in-Err.is a.first.now a.second.now a.list.now
     (list_checked a.count a.first.now a.second.now (length a.list.now))
 
-pub returns-in-Pass : goal.returns-in-Pass
-returns-in-Pass c =
+pub returns-in-Ok : goal.returns-in-Ok
+returns-in-Ok c =
     let a = c.args in
-    pass_left a.first_sheet.now a.second_sheet.now a.count (length a.first.now) (length a.second.now) _ c.check_logs.ensures.0 c.in-Pass.is a.first.now a.second.now a.list.now
+    pass_left a.first_sheet.now a.second_sheet.now a.count (length a.first.now) (length a.second.now) _ c.check_logs.ensures.0 c.in-Ok.is a.first.now a.second.now a.list.now
     (list_checked a.count a.first.now a.second.now (length a.list.now)) c.compare_checked.ensures

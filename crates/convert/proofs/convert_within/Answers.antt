@@ -3,10 +3,10 @@ use Rattle.convert.proofs.Parts.{refuse_left, passes_are, pass_left}
 use Rattle.convert.proofs.convert_within.Goals as goal
 
 pub convert_checked-requires : goal.convert_checked-requires
-convert_checked-requires c = (passes_are c.args.in_place c.args.source_sheet.now c.args.destination_sheet.now c.args.handling c.args.count c.args.out.now c.args.other.now _ _ c.check_sheets.ensures.0 c.in-Pass.is, c.check_sheets.ensures.1, c.requires.0)
+convert_checked-requires c = (passes_are c.args.in_place c.args.source_sheet.now c.args.destination_sheet.now c.args.handling c.args.count c.args.out.now c.args.other.now _ _ c.check_sheets.ensures.0 c.in-Ok.is, c.check_sheets.ensures.1, c.requires.0)
 
-pub returns-in-Refuse : goal.returns-in-Refuse
-returns-in-Refuse c = refuse_left c.args.in_place c.args.source_sheet.now c.args.destination_sheet.now c.args.handling c.args.count c.args.out.now c.args.other.now _ _ c.check_sheets.ensures.0 _ c.in-Refuse.is
+pub returns-in-Err : goal.returns-in-Err
+returns-in-Err c = refuse_left c.args.in_place c.args.source_sheet.now c.args.destination_sheet.now c.args.handling c.args.count c.args.out.now c.args.other.now _ _ c.check_sheets.ensures.0 _ c.in-Err.is
 
-pub returns-in-Pass : goal.returns-in-Pass
-returns-in-Pass c = pass_left c.args.in_place c.args.source_sheet.now c.args.destination_sheet.now c.args.handling c.args.count c.args.out.now c.args.other.now _ _ c.check_sheets.ensures.0 c.in-Pass.is _ _ c.convert_checked.ensures
+pub returns-in-Ok : goal.returns-in-Ok
+returns-in-Ok c = pass_left c.args.in_place c.args.source_sheet.now c.args.destination_sheet.now c.args.handling c.args.count c.args.out.now c.args.other.now _ _ c.check_sheets.ensures.0 c.in-Ok.is _ _ c.convert_checked.ensures

@@ -2,7 +2,7 @@
 -- it was at the call, if this holds where the loop begins. Assumes nothing.
 use mathlib.Core.Path.{◌≡◌, refl, ◌∙◌}
 use mathlib.Core.List.{◌++◌}
-use Prim.Native.Nat.{◌≤◌, ◌-◌, ◌*◌, ◌+◌}
+use Prim.Native.Nat.{◌≤◌, ◌*◌, ◌+◌}
 use native.Mathlib.Omega.{arith}
 use lib.ListN.{take, drop}
 use Rattle.plans.specs.PlanWords.{Job}
@@ -21,7 +21,7 @@ pub loop-i-init : goal.loop-i-init
 loop-i-init c =
     let call = c.copy_bulk-done in
     let j = c.requires.0 in
-    (call.ensures.0, refl, omega (arith, (call.ensures.1 j).2, all_most j c.args.src.now call.result.records), λ j was same room done. done)
+    (refl, omega (arith, (call.ensures.1 j).2, all_most j c.args.src.now call.result.records), λ j was same room done. done)
 
 pub overflow_mul-i : goal.overflow_mul-i
 overflow_mul-i c =
@@ -85,13 +85,13 @@ loop-i-preserved c =
     let small : c.write_record-total.result ≤ 4096 =
     let j = c.requires.0 in rw (called j).1 (raised_small j _) in
     let a = c.args in
-    (omega arith, lent_length (c.loop-i.i * a.destination_size) c.loop-i.dst c.write_record-total.new.dst (omega (arith, rows)) c.write_record-total.auto.dst ∙ c.loop-i.invariant.1, omega (arith, small), λ j was same room done. turn j.source j.destination j.source_formed j.destination_formed a.source_size a.destination_size j.source_size j.destination_size a.count a.src.now was room c.loop-i.i c.loop-i.total _ c.loop-i.dst _ (omega arith) (c.loop-i.invariant.1 ∙ same) (c.loop-i.invariant.3 j was same room done) (called j))
+    (lent_length (c.loop-i.i * a.destination_size) c.loop-i.dst c.write_record-total.new.dst (omega (arith, rows)) c.write_record-total.auto.dst ∙ c.loop-i.invariant.0, omega (arith, small), λ j was same room done. turn j.source j.destination j.source_formed j.destination_formed a.source_size a.destination_size j.source_size j.destination_size a.count a.src.now was room c.loop-i.i c.loop-i.total _ c.loop-i.dst _ (omega arith) (c.loop-i.invariant.0 ∙ same) (c.loop-i.invariant.2 j was same room done) (called j))
 
 pub shape_of-dst : goal.shape_of-dst
-shape_of-dst c = c.loop-i.invariant.1 ∙ c.copy_bulk-done.auto.dst
+shape_of-dst c = c.loop-i.invariant.0 ∙ c.copy_bulk-done.auto.dst
 
 pub returns : goal.returns
 returns c =
     let a = c.args in
     let call = c.copy_bulk-done in
-    λ j. finish j.source j.destination j.source_formed j.destination_formed a.source_size a.destination_size j.source_size j.destination_size a.count a.src.now a.dst.now c.requires.3 c.loop-i.i c.loop-i.total c.loop-i.dst (omega arith) (c.loop-i.invariant.3 j a.dst.now call.auto.dst c.requires.3 (call.ensures.1 j))
+    λ j. finish j.source j.destination j.source_formed j.destination_formed a.source_size a.destination_size j.source_size j.destination_size a.count a.src.now a.dst.now c.requires.3 c.loop-i.i c.loop-i.total c.loop-i.dst (omega arith) (c.loop-i.invariant.2 j a.dst.now call.auto.dst c.requires.3 (call.ensures.1 j))

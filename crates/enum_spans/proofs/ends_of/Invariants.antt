@@ -1,10 +1,7 @@
 -- `enum_spans::ends_of` meets its contract. The loop's invariant: the rows before q are between `low` and `end`. Assumes nothing.
-use Prim.Native.Nat.{◌-◌, ◌^◌, ◌≤◌, ◌<◌}
+use Prim.Native.Nat.{◌^◌, ◌≤◌, ◌<◌}
 use Rattle.plans.specs.Spans.{RowsIn}
 use Rattle.enum_spans.proofs.ends_of.Given as goal
 
 abbrev pub invariant-loop-q : goal.invariant-loop-q
-invariant-loop-q l = (l.q ≤ l.n) × RowsIn l.half l.precision l.first l.q l.low l.end × (l.low < 4294967296) × (l.end ≤ 2 ^ l.precision)
-
-abbrev pub decreases-loop-q : goal.decreases-loop-q
-decreases-loop-q l = l.n - l.q
+invariant-loop-q l = RowsIn l.half l.precision l.first l.q l.low l.end × (l.low < 4294967296) × (l.end ≤ 2 ^ l.precision)

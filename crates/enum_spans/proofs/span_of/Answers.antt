@@ -12,4 +12,4 @@ returns-then-end-low c = span_none _ _ c.type_word-first.ensures c.symbol_rows.e
 pub returns : goal.returns
 returns c =
     span_some _ _ c.type_word-first.ensures c.symbol_rows.ensures c.layout_at-l.ensures.0 c.ends_of-e.ensures.0 _ _ (omega (arith, c.if-end-low.false)) c.ends_of-e.ensures.2
-    c.least.ensures c.if-least-end.false
+    c.min.ensures c.if-min-end.false

@@ -1,5 +1,7 @@
 -- `frames::look_by_plan` meets its contract. Assumes nothing.
-use Rattle.frames.proofs.Framed.{source_size_lem, stop_records, stop_job, found_stop, found_none, none_stops}
+use Rattle.conversion.specs.Call.{source_of}
+use Rattle.conversion.proofs.Parts.{stop_says}
+use Rattle.frames.proofs.Framed.{source_size_lem, stop_records, stop_job, none_stops}
 use Rattle.frames.proofs.look_by_plan.Goals as goal
 
 pub returns-then-entries-eq0 : goal.returns-then-entries-eq0
@@ -11,16 +13,9 @@ returns-then-entries-eq0 c =
 pub first_stop-requires : goal.first_stop-requires
 first_stop-requires c = (_, stop_job c.requires.0 c.type_word-source_size.ensures c.make_stop_plan-entries.ensures, stop_records c.requires.0 c.type_word-source_size.ensures)
 
-pub returns-in-At : goal.returns-in-At
+pub returns : goal.returns
 unfolding stop_job
-returns-in-At c =
+returns c =
     let a = c.args in
-    found_stop a.x.in_place a.x.count a.out.now a.other.now _ _ a.x.handling _ c.requires.1 (source_size_lem c.requires.0 c.type_word-source_size.ensures)
-    (c.first_stop.ensures _ (stop_job c.requires.0 c.type_word-source_size.ensures c.make_stop_plan-entries.ensures)) c.in-At.is
-
-pub returns-in-Nowhere : goal.returns-in-Nowhere
-unfolding stop_job
-returns-in-Nowhere c =
-    let a = c.args in
-    found_none a.x.in_place a.x.count a.out.now a.other.now _ _ a.x.handling _ c.requires.1 (source_size_lem c.requires.0 c.type_word-source_size.ensures)
-    (c.first_stop.ensures _ (stop_job c.requires.0 c.type_word-source_size.ensures c.make_stop_plan-entries.ensures)) c.in-Nowhere.is
+    stop_says a.x.count (source_of a.x.in_place a.out.now a.other.now) _ _ a.x.handling _ c.requires.1 (source_size_lem c.requires.0 c.type_word-source_size.ensures)
+    (c.first_stop.ensures _ (stop_job c.requires.0 c.type_word-source_size.ensures c.make_stop_plan-entries.ensures))

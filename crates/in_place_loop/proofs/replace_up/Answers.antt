@@ -17,7 +17,7 @@ bulk_up-done-requires c =
 pub loop-i-init : goal.loop-i-init
 loop-i-init c =
     let o = c.bulk_up-done in
-    (o.ensures.0, refl, o.auto.staging, λ j first same up. up)
+    (refl, o.auto.staging, λ j first same up. up)
 
 pub replace_record-total-requires : goal.replace_record-total-requires
 replace_record-total-requires c =
@@ -36,7 +36,7 @@ replace_record-total-requires c =
 pub overflow_add-total : goal.overflow_add-total
 overflow_add-total c =
     let counted : c.loop-i.total + c.replace_record-total.result ≤ 268435456 =
-    let a = c.args in let l = c.loop-i in let o = c.replace_record-total in let done = c.bulk_up-done in let here = c.loop-i-test.true in let hi : l.i < a.count = omega (arith, here, l.invariant.0) in let j = c.requires.0 in let turned = up_turn j.source j.destination j.source_formed j.destination_formed a.source_size a.destination_size j.source_size j.destination_size a.count a.buf.now a.background.now c.requires.4 l.i l.total o.result l.buf _ (omega (arith, c.requires.3, done.auto.buf, done.auto.buf)) c.requires.2 hi (l.invariant.1 ∙ done.auto.buf) (l.invariant.3 j a.buf.now done.auto.buf (done.ensures.1 j)) (o.ensures j) in omega (arith, turned.2, all_most j a.buf.now (l.i + 1), c.requires.1) in
+    let a = c.args in let l = c.loop-i in let o = c.replace_record-total in let done = c.bulk_up-done in let here = c.loop-i-test.true in let hi : l.i < a.count = omega (arith, here, l.auto.i-end) in let j = c.requires.0 in let turned = up_turn j.source j.destination j.source_formed j.destination_formed a.source_size a.destination_size j.source_size j.destination_size a.count a.buf.now a.background.now c.requires.4 l.i l.total o.result l.buf _ (omega (arith, c.requires.3, done.auto.buf, done.auto.buf)) c.requires.2 hi (l.invariant.0 ∙ done.auto.buf) (l.invariant.2 j a.buf.now done.auto.buf (done.ensures.1 j)) (o.ensures j) in omega (arith, turned.2, all_most j a.buf.now (l.i + 1), c.requires.1) in
     omega (arith, counted)
 
 pub loop-i-preserved : goal.loop-i-preserved
@@ -46,15 +46,14 @@ loop-i-preserved c =
     let o = c.replace_record-total in
     let done = c.bulk_up-done in
     let here = c.loop-i-test.true in
-    let hi : l.i < a.count = omega (arith, here, l.invariant.0) in (
-      omega (arith, hi),
-      o.auto.buf ∙ l.invariant.1,
-      o.auto.staging ∙ l.invariant.2,
-      λ j first same up. up_turn j.source j.destination j.source_formed j.destination_formed a.source_size a.destination_size j.source_size j.destination_size a.count first a.background.now c.requires.4 l.i l.total o.result l.buf _ (omega (arith, c.requires.3, done.auto.buf, same)) c.requires.2 hi (l.invariant.1 ∙ same) (l.invariant.3 j first same up) (o.ensures j),
+    let hi : l.i < a.count = omega (arith, here, l.auto.i-end) in (
+      o.auto.buf ∙ l.invariant.0,
+      o.auto.staging ∙ l.invariant.1,
+      λ j first same up. up_turn j.source j.destination j.source_formed j.destination_formed a.source_size a.destination_size j.source_size j.destination_size a.count first a.background.now c.requires.4 l.i l.total o.result l.buf _ (omega (arith, c.requires.3, done.auto.buf, same)) c.requires.2 hi (l.invariant.0 ∙ same) (l.invariant.2 j first same up) (o.ensures j),
     )
 
 pub shape_of-buf : goal.shape_of-buf
-shape_of-buf c = c.loop-i.invariant.1 ∙ c.bulk_up-done.auto.buf
+shape_of-buf c = c.loop-i.invariant.0 ∙ c.bulk_up-done.auto.buf
 
 pub returns : goal.returns
 returns c =
@@ -62,4 +61,4 @@ returns c =
     let l = c.loop-i in
     let done = c.bulk_up-done in
     let end : l.i ≡ a.count = omega arith in
-    λ j. rw end at (l.invariant.3 j a.buf.now done.auto.buf (done.ensures.1 j))
+    λ j. rw end at (l.invariant.2 j a.buf.now done.auto.buf (done.ensures.1 j))

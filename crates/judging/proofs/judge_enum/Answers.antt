@@ -5,11 +5,11 @@ use mathlib.Core.Path.{ap}
 use mathlib.Core.Bool.{not}
 use Rattle.judging.proofs.judge_enum.Goals as goal
 
-pub returns-then-types-base : goal.returns-then-types-base
-returns-then-types-base c = refused c.requires.0 (enum_high c.args.half.now c.args.sheet.now _ c.if-types-base.true)
+pub returns-then-so_far-base : goal.returns-then-so_far-base
+returns-then-so_far-base c = refused c.requires.0 (enum_high c.args.half.now c.args.sheet.now _ c.if-so_far-base.true)
 
 pub returns-then-not-is_int : goal.returns-then-not-is_int
-returns-then-not-is_int c = refused c.requires.0 (enum_other c.args.sheet.now c.requires.0 c.if-types-base.false c.is_int.ensures (ap not c.if-not-is_int.true))
+returns-then-not-is_int c = refused c.requires.0 (enum_other c.args.sheet.now c.requires.0 c.if-so_far-base.false c.is_int.ensures (ap not c.if-not-is_int.true))
 
 pub returns : goal.returns
-returns c = enum_judged c.args.sheet.now c.requires.0 c.requires.1 c.if-types-base.false c.is_int.ensures (ap not c.if-not-is_int.false) c.layout_at-l.ensures.0 c.enum_record.ensures c.next_type.ensures
+returns c = enum_judged c.args.sheet.now c.requires.0 c.requires.1 c.if-so_far-base.false c.is_int.ensures (ap not c.if-not-is_int.false) c.layout_at-l.ensures.0 c.enum_record.ensures c.next_type.ensures

@@ -10,9 +10,9 @@ returns-in_default c =
 pub returns-in_default-other : goal.returns-in_default-other
 returns-in_default-other c =
     let a = c.args in
-    second_missing a.first_half.now a.first_sheet.now a.second_half.now a.second_sheet.now a.row a.other a.numbers c.in-At.is c.in_default-other.is
+    second_missing a.first_half.now a.first_sheet.now a.second_half.now a.second_sheet.now a.row a.other a.numbers c.in-Some.is c.in_default-other.is
 
 pub returns : goal.returns
 returns c =
     let a = c.args in
-    both_found a.first_half.now a.first_sheet.now a.second_half.now a.second_sheet.now a.row a.other a.numbers c.in-At.is c.in-At-other.is c.same_names.ensures
+    both_found a.first_half.now a.first_sheet.now a.second_half.now a.second_sheet.now a.row a.other a.numbers c.in-Some.is c.in-Some-other.is c.same_names.ensures

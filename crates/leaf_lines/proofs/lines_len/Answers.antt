@@ -2,12 +2,8 @@
 use native.Mathlib.Omega.{arith}
 use mathlib.Core.List.{[]}
 use borrow.Author.Rules.{rules}
-use Prim.Native.Nat.{◌-◌}
-use Rattle.leaf_lines.proofs.Lines.{counted_start, counted_next, counted_done}
+use Rattle.leaf_lines.proofs.Lines.{counted_next, counted_done}
 use Rattle.leaf_lines.proofs.lines_len.Goals as goal
-
-pub loop-b-init : goal.loop-b-init
-loop-b-init c = counted_start _ _ _
 
 pub overflow_add-n : goal.overflow_add-n
 overflow_add-n c = omega (arith, (c.leaf_len-n.ensures []).few)

@@ -8,7 +8,7 @@ returns-in_default c = search (rules, no_write)
 
 pub put_line-requires : goal.put_line-requires
 put_line-requires c =
-    line_fits c.args.half.now c.args.type_number c.args.byte c.args.at _ c.leaf_at.ensures c.in-At.is
+    line_fits c.args.half.now c.args.type_number c.args.byte c.args.at _ c.leaf_at.ensures c.in-Some.is
     c.type_word-size.ensures c.type_word-class.ensures c.requires.1
 
 pub returns : goal.returns

@@ -1,11 +1,7 @@
 -- `leaf_lines::put_lines` meets its contract. Assumes nothing.
 use borrow.Author.Rules.{rules}
-use Prim.Native.Nat.{◌-◌}
-use Rattle.leaf_lines.proofs.Lines.{writing_start, line_room, writing_next, writing_done}
+use Rattle.leaf_lines.proofs.Lines.{line_room, writing_next, writing_done}
 use Rattle.leaf_lines.proofs.put_lines.Goals as goal
-
-pub loop-byte-init : goal.loop-byte-init
-loop-byte-init c = search (rules, writing_start)
 
 pub put_leaf-at-requires : goal.put_leaf-at-requires
 put_leaf-at-requires c = search (rules, line_room)

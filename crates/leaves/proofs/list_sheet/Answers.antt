@@ -2,14 +2,11 @@
 use Rattle.leaves.proofs.Answers.{sheet_laws}
 use Rattle.leaves.proofs.list_sheet.Goals as goal
 
-pub overflow_sub-n : goal.overflow_sub-n
-overflow_sub-n c = search sheet_laws
-
 pub list_type-requires : goal.list_type-requires
 list_type-requires c = search sheet_laws
 
-pub returns-in-Types : goal.returns-in-Types
-returns-in-Types c = search sheet_laws
+pub returns-in-Ok : goal.returns-in-Ok
+returns-in-Ok c = search sheet_laws
 
-pub returns-in-Faulty : goal.returns-in-Faulty
-returns-in-Faulty c = search sheet_laws
+pub returns-in-Err : goal.returns-in-Err
+returns-in-Err c = search sheet_laws

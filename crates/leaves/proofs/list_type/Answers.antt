@@ -1,5 +1,4 @@
 -- `leaves::list_type` meets its contract. Assumes nothing.
-use native.Mathlib.Omega.{arith}
 use Rattle.leaves.proofs.Answers.{lists_room, lists_done}
 use borrow.Author.Rules.{rules}
 use Rattle.leaves.proofs.list_type.Goals as goal
@@ -8,9 +7,6 @@ pub returns-then-list-len : goal.returns-then-list-len
 returns-then-list-len c t =
     let s = c.args in
     lists_room s.half.now t s.type_number c.type_word-size.ensures (c.lines_len-len.ensures.0 t) s.list.now (search rules)
-
-pub put_list-requires : goal.put_list-requires
-put_list-requires c = (search rules, λ t. omega (arith, c.lines_len-len.ensures.0 t))
 
 pub returns : goal.returns
 returns c t =

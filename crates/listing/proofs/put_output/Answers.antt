@@ -14,7 +14,7 @@ returns-then-number-eq0 c =
     c.number_of-number.ensures
     c.values_of-v.ensures
     (search rules) in
-    record { kind = p.0; bytes = p.1 }
+    record { long = p.0; faulty = p.1; bytes = p.2 }
 
 pub returns : goal.returns
 returns c =
@@ -27,5 +27,5 @@ returns c =
     c.number_of-number.ensures
     c.values_of-v.ensures
     (search rules)
-    c.put_refused-n.ensures in
-    record { kind = p.0; bytes = p.1 }
+    c.put_refused-bytes.ensures in
+    record { long = p.0; faulty = p.1; bytes = p.2 }

@@ -26,8 +26,8 @@ type_word-z-requires c = search compound_laws
 pub gap_end-requires : goal.gap_end-requires
 gap_end-requires c = search compound_laws
 
-pub returns-in-At : goal.returns-in-At
-returns-in-At c = search compound_laws
+pub returns-in-Some : goal.returns-in-Some
+returns-in-Some c = search compound_laws
 
-pub returns-in-Missing : goal.returns-in-Missing
-returns-in-Missing c = search compound_laws
+pub returns-in-None : goal.returns-in-None
+returns-in-None c = search compound_laws

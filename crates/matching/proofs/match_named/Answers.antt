@@ -29,8 +29,8 @@ enum_told-1 c = search named_laws
 pub row_end-requires : goal.row_end-requires
 row_end-requires c = search named_laws
 
-pub returns-in-At : goal.returns-in-At
-returns-in-At c = search named_laws
+pub returns-in-Some : goal.returns-in-Some
+returns-in-Some c = search named_laws
 
-pub returns-in-Missing : goal.returns-in-Missing
-returns-in-Missing c = search named_laws
+pub returns-in-None : goal.returns-in-None
+returns-in-None c = search named_laws

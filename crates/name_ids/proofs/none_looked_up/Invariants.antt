@@ -1,5 +1,5 @@
 -- `name_ids::none_looked_up` meets its contract. The invariant: the first i entries have other routes. Assumes nothing.
-use Prim.Native.Nat.{ℕ, ◌-◌, ◌<◌}
+use Prim.Native.Nat.{ℕ, ◌<◌}
 use lib.ListN.{get_or}
 use Rattle.entry_code.specs.Code.{route_in}
 use Rattle.plans.specs.PlanWords.{words_place}
@@ -7,6 +7,3 @@ use Rattle.name_ids.proofs.none_looked_up.Given as goal
 
 abbrev pub invariant-loop-i : goal.invariant-loop-i
 invariant-loop-i l = (t : ℕ) → t < l.i → route_in (get_or l.words (words_place t) 0) < 7
-
-abbrev pub decreases-loop-i : goal.decreases-loop-i
-decreases-loop-i l = l.entries - l.i

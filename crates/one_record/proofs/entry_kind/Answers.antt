@@ -1,10 +1,7 @@
 -- `one_record::entry_kind` meets its contract. Assumes nothing.
 use native.Mathlib.Omega.{arith}
-use Rattle.plans.proofs.EasyLeaves.{easy_kind, real_asked, real_kind_is, number_kind_is, enum_ready, enum_kind_is, both_valid}
+use Rattle.plans.proofs.EasyLeaves.{easy_kind, real_asked, real_kind_is, number_kind_is, enum_kind_is, both_valid}
 use Rattle.one_record.proofs.entry_kind.Goals as goal
-
-pub enum_kind-requires : goal.enum_kind-requires
-enum_kind-requires c = enum_ready c.requires.1 c.words_of-place.ensures c.at.ensures c.route_in-route.ensures c.if-route-ge-SPAN_LE.true
 
 pub returns-then-route-ge-SPAN_LE : goal.returns-then-route-ge-SPAN_LE
 returns-then-route-ge-SPAN_LE c = enum_kind_is c.requires.1 c.words_of-place.ensures c.at.ensures c.route_in-route.ensures _ c.enum_kind.ensures

@@ -1,21 +1,10 @@
 -- `one_record::write_number` meets its contract. Assumes nothing.
-use mathlib.Core.Path.{◌∙◌}
 use native.Mathlib.Omega.{arith}
-use Rattle.plans.proofs.EasyLeaves.{route_is, easy_at, words_room, easy_became, real_became, number_became, both_valid}
+use Rattle.plans.proofs.EasyLeaves.{route_is, easy_at, easy_became, real_became, number_became, both_valid}
 use Rattle.one_record.proofs.write_number.Goals as goal
-
-pub write_real-requires : goal.write_real-requires
-write_real-requires c = (c.requires.0, c.requires.1, route_is c.requires.0 c.words_of-place.ensures c.at.ensures c.route_in-route.ensures ∙ c.if-route-eq-REAL.true)
 
 pub returns-then-route-eq-REAL : goal.returns-then-route-eq-REAL
 returns-then-route-eq-REAL c = real_became c.requires.0 c.words_of-place.ensures c.at.ensures c.route_in-route.ensures c.if-route-eq-REAL.true _ _ _ c.write_real.ensures
-
-pub convert_easy-requires : goal.convert_easy-requires
-convert_easy-requires c =
-    let here = c.words_of-place.ensures in
-    let route = route_is c.requires.0 here c.at.ensures c.route_in-route.ensures in
-    let easy = easy_at c.requires.0 here c.at.ensures c.route_in-route.ensures c.if-route-ne-GENERAL.true (omega (arith, route, c.requires.2, c.if-route-eq-REAL.false)) in
-    ((_, _, easy, c.requires.0.write), omega (arith, c.if-src-e-ge8.true, c.requires.0.read), words_room c.requires.0 here c.at.ensures c.route_in-route.ensures)
 
 pub returns-then-src-e-ge8 : goal.returns-then-src-e-ge8
 returns-then-src-e-ge8 c =

@@ -1,14 +1,7 @@
 -- `one_record::write_real` meets its contract. Assumes nothing.
-use native.Mathlib.Omega.{arith}
 use Rattle.plans.specs.LeafSteps.{real_becomes}
-use Rattle.plans.proofs.EasyLeaves.{real_here, real_room, real_at}
+use Rattle.plans.proofs.EasyLeaves.{real_here, real_at}
 use Rattle.one_record.proofs.write_real.Goals as goal
-
-pub convert_real_fast-requires : goal.convert_real_fast-requires
-convert_real_fast-requires c =
-    let here = c.words_of-place.ensures in
-    let fast = real_at c.requires.0 c.requires.2 here c.at.ensures c.if-at-ne0.true in
-    ((_, _, _, fast, c.requires.0.write), omega (arith, c.if-src-e-ge8.true, c.requires.0.read), real_room c.requires.0 c.requires.2 here)
 
 pub returns-then-src-e-ge8 : goal.returns-then-src-e-ge8
 unfolding real_becomes

@@ -18,10 +18,10 @@ span_word-code-requires c = pair_valid _ _ _ _ _ _ c.requires.0
 
 pub put_span-requires : goal.put_span-requires
 put_span-requires c =
-    let room = span_asked _ _ _ _ _ _ _ _ _ _ c.requires.2 c.requires.0 (rw c.in-Of.is at c.span_of.ensures) c.put_four-2.ensures in
+    let room = span_asked _ _ _ _ _ _ _ _ _ _ c.requires.2 c.requires.0 (rw c.in-Some.is at c.span_of.ensures) c.put_four-2.ensures in
     (room.0, room.1, symbols_once _ _ _ _ _ (subst WellFormedLeaf (leaf_enum _ _ _ c.requires.1) c.requires.0.destination).symbols, room.2, room.3)
 
 pub returns : goal.returns
 returns c =
-    let of = rw c.in-Of.is at c.span_of.ensures in
+    let of = rw c.in-Some.is at c.span_of.ensures in
     (put_spanned _ _ _ _ _ _ _ _ _ c.requires.2 c.requires.1 c.span_word-code.ensures of c.put_four-2.ensures c.put_span.ensures, omega (arith, of.few, c.requires.2.within))

@@ -20,7 +20,7 @@ rows c =
     (row_within a.source_size c.loop-i-test.true, row_within a.destination_size c.loop-i-test.true)
 
 pub loop-i-init : goal.loop-i-init
-loop-i-init c = (omega arith, refl, each_start _ _ _)
+loop-i-init c = (refl, each_start _ _ _)
 
 pub overflow_mul-i : goal.overflow_mul-i
 overflow_mul-i c = omega (arith, rows c.before)
@@ -46,7 +46,7 @@ move_bytes-requires c =
     let l = c.loop-i in (
       c.requires.0,
       lent_room (l.i * a.source_size) (a.source_byte + a.bytes) a.src.now (omega (arith, (rows c.before.before.before).0, c.requires.1, c.requires.3)),
-      lent_room (l.i * a.destination_size) (a.destination_byte + a.bytes) l.dst (omega (arith, (rows c.before.before.before).1, c.requires.2, c.requires.4, l.invariant.1)),
+      lent_room (l.i * a.destination_size) (a.destination_byte + a.bytes) l.dst (omega (arith, (rows c.before.before.before).1, c.requires.2, c.requires.4, l.invariant.0)),
     )
 
 pub loop-i-preserved : goal.loop-i-preserved
@@ -54,17 +54,16 @@ loop-i-preserved c =
     let a = c.args in
     let l = c.loop-i in
     let low : l.i * a.source_size + a.source_size ≤ length a.src.now = omega (arith, (rows c.before.before.before.before.before.before).0, c.requires.3) in
-    let high : l.i * a.destination_size + a.destination_size ≤ length l.dst = omega (arith, (rows c.before.before.before.before.before.before).1, c.requires.4, l.invariant.1) in (
-      omega (arith, c.loop-i-test.true),
-      lent_length (l.i * a.destination_size) l.dst c.move_bytes.new.dst (omega arith) c.move_bytes.auto.dst ∙ l.invariant.1,
-      piece_turn a.bytes a.destination_byte a.source_byte a.source_size a.destination_size a.src.now l.i a.dst.now l.dst c.move_bytes.new.dst low high c.requires.1 c.requires.2 l.invariant.2 c.move_bytes.ensures,
+    let high : l.i * a.destination_size + a.destination_size ≤ length l.dst = omega (arith, (rows c.before.before.before.before.before.before).1, c.requires.4, l.invariant.0) in (
+      lent_length (l.i * a.destination_size) l.dst c.move_bytes.new.dst (omega arith) c.move_bytes.auto.dst ∙ l.invariant.0,
+      piece_turn a.bytes a.destination_byte a.source_byte a.source_size a.destination_size a.src.now l.i a.dst.now l.dst c.move_bytes.new.dst low high c.requires.1 c.requires.2 l.invariant.1 c.move_bytes.ensures,
     )
 
 pub shape_of-dst : goal.shape_of-dst
-shape_of-dst c = c.loop-i.invariant.1
+shape_of-dst c = c.loop-i.invariant.0
 
 pub returns : goal.returns
 returns c =
     let l = c.loop-i in
     let end : l.i ≡ c.args.count = omega arith in
-    rw end at l.invariant.2
+    rw end at l.invariant.1

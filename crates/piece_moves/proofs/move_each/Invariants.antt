@@ -6,7 +6,4 @@ use Rattle.piece_moves.specs.Pieces.{each_piece}
 use Rattle.piece_moves.proofs.move_each.Given as goal
 
 abbrev pub invariant-loop-i : goal.invariant-loop-i
-invariant-loop-i l = (l.i ≤ l.count) × (length l.dst ≡ length l.initial.dst) × (l.dst ≡ each_piece l.bytes l.destination_byte l.source_byte l.source_size l.destination_size l.src l.i l.initial.dst)
-
-abbrev pub decreases-loop-i : goal.decreases-loop-i
-decreases-loop-i l = l.count - l.i
+invariant-loop-i l = (length l.dst ≡ length l.initial.dst) × (l.dst ≡ each_piece l.bytes l.destination_byte l.source_byte l.source_size l.destination_size l.src l.i l.initial.dst)

@@ -4,7 +4,4 @@ use Rattle.plan_parts.specs.Again.{Lies}
 use Rattle.plan_parts.proofs.all_lie_in_part.Given as goal
 
 abbrev pub invariant-loop-i : goal.invariant-loop-i
-invariant-loop-i l = (l.i ≤ l.part_entries) × ((j : ℕ) → j < l.i → Lies l.plan l.source_part l.destination_part l.source_half l.destination_half j)
-
-abbrev pub decreases-loop-i : goal.decreases-loop-i
-decreases-loop-i l = l.part_entries - l.i
+invariant-loop-i l = (j : ℕ) → j < l.i → Lies l.plan l.source_part l.destination_part l.source_half l.destination_half j

@@ -12,16 +12,16 @@ pub returns-then-x-y : goal.returns-then-x-y
 returns-then-x-y c e j h = ap (λ (t : ℕ). type_word c.args.half.now t j) c.if-x-y.true
 
 pub loop-k-init : goal.loop-k-init
-loop-k-init c = (omega arith, λ j h. absurd (not-suc-le-zero h))
+loop-k-init c = λ j h. absurd (not-suc-le-zero h)
 
 pub loop-k-preserved : goal.loop-k-preserved
 loop-k-preserved c =
     let a = c.args in
     let l = c.loop-k in
-    (omega (arith, c.loop-k-test.true), one_more (λ j. type_word a.half.now a.x j ≡ type_word a.half.now a.y j) l.k l.invariant.1 (sym c.type_word.ensures.is ∙ c.if-type_word.true ∙ c.type_word-in-loop-k.ensures.is))
+    one_more (λ j. type_word a.half.now a.x j ≡ type_word a.half.now a.y j) l.k l.invariant (sym c.type_word.ensures.is ∙ c.if-type_word.false ∙ c.type_word-in-loop-k.ensures.is)
 
-pub returns-else-type_word : goal.returns-else-type_word
-returns-else-type_word c e = absurd (false≢true e)
+pub returns-then-type_word : goal.returns-then-type_word
+returns-then-type_word c e = absurd (false≢true e)
 
 pub returns : goal.returns
-returns c e j h = c.loop-k.invariant.1 j (omega (arith, h))
+returns c e j h = c.loop-k.invariant j (omega (arith, h))

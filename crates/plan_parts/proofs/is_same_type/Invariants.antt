@@ -5,7 +5,4 @@ use Rattle.table.specs.Table.{type_word}
 use Rattle.plan_parts.proofs.is_same_type.Given as goal
 
 abbrev pub invariant-loop-k : goal.invariant-loop-k
-invariant-loop-k l = (l.k ≤ 16) × ((j : ℕ) → j < l.k → type_word l.half l.x j ≡ type_word l.half l.y j)
-
-abbrev pub decreases-loop-k : goal.decreases-loop-k
-decreases-loop-k l = 16 - l.k
+invariant-loop-k l = (j : ℕ) → j < l.k → type_word l.half l.x j ≡ type_word l.half l.y j

@@ -1,23 +1,10 @@
 -- `planning::plan` meets its contract. The invariant: the entries so far, and then those of the bytes from b on, are the plan. Assumes nothing.
-use Prim.Native.Nat.{◌-◌}
 use native.Mathlib.Omega.{arith}
 use Rattle.paths.proofs.Entries.{found_in, step_some, step_inside, filled_next, plan_laws}
 use Rattle.planning.proofs.plan.Goals as goal
 
-pub type_word-bytes-requires : goal.type_word-bytes-requires
-type_word-bytes-requires c = search plan_laws
-
 pub loop-destination_byte-init : goal.loop-destination_byte-init
 loop-destination_byte-init c = search plan_laws
-
-pub match_at-m-requires : goal.match_at-m-requires
-match_at-m-requires c = search plan_laws
-
-pub add_entry-entries-requires : goal.add_entry-entries-requires
-add_entry-entries-requires c = search plan_laws
-
-pub step_of-destination_byte-requires : goal.step_of-destination_byte-requires
-step_of-destination_byte-requires c = search plan_laws
 
 pub overflow_add-destination_byte : goal.overflow_add-destination_byte
 overflow_add-destination_byte c =
@@ -33,9 +20,6 @@ pub loop-destination_byte-preserved : goal.loop-destination_byte-preserved
 loop-destination_byte-preserved c =
     let pre = c.requires in
     filled_next _ _ _ _ _ _ c.loop-destination_byte.invariant pre.0 pre.1 (found_in c.match_at-m.ensures) c.step_of-destination_byte.ensures c.add_entry-entries.ensures
-
-pub shape_of-plan : goal.shape_of-plan
-shape_of-plan c = search plan_laws
 
 pub returns : goal.returns
 returns c = search plan_laws

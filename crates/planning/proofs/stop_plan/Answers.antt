@@ -1,7 +1,6 @@
 -- `planning::stop_plan` meets its contract. The invariant: the entries so far, and then those of the bytes from b on, are the plan. Assumes nothing.
-use Prim.Native.Nat.{◌-◌}
 use native.Mathlib.Omega.{arith}
-use Rattle.planning.proofs.StopPlans.{going_start, going_inside, going_length, going_most, going_asked, going_some, going_step, going_next, going_done}
+use Rattle.planning.proofs.StopPlans.{going_start, going_inside, going_most, going_asked, going_some, going_step, going_next, going_done}
 use Rattle.planning.proofs.stop_plan.Goals as goal
 
 pub loop-byte-init : goal.loop-byte-init
@@ -31,11 +30,6 @@ pub loop-byte-preserved : goal.loop-byte-preserved
 loop-byte-preserved c =
     let pre = c.requires in
     going_next _ _ _ _ _ _ _ pre.0 pre.1 c.loop-byte.invariant c.match_at-found.ensures c.stop_match-m.ensures c.step_of-byte.ensures c.add_entry-entries.ensures
-
-pub shape_of-plan : goal.shape_of-plan
-shape_of-plan c =
-    let pre = c.requires in
-    going_length _ _ _ _ _ _ _ pre.0 pre.1 c.loop-byte.invariant
 
 pub returns : goal.returns
 returns c =

@@ -2,14 +2,8 @@
 use Rattle.reader.proofs.Lines.{line_laws}
 use Rattle.reader.proofs.line_at.Goals as goal
 
-pub slice_bounds-result-end : goal.slice_bounds-result-end
-slice_bounds-result-end c = search line_laws
-
 pub returns-then-s-at : goal.returns-then-s-at
 returns-then-s-at c = search line_laws
-
-pub next_place-end-requires : goal.next_place-end-requires
-next_place-end-requires c = search line_laws
 
 pub slice_bounds-result-count : goal.slice_bounds-result-count
 slice_bounds-result-count c = search line_laws

@@ -24,27 +24,12 @@ judge_member-requires c =
     let h = member_inside _ _ c.requires.2 c.in-Member.is in
     (c.requires.0, c.requires.1, omega arith, omega arith)
 
-pub returns-in-Atomic : goal.returns-in-Atomic
-returns-in-Atomic c = rw c.in-Atomic.is c.judge_atomic.ensures
-
-pub returns-in-Enum : goal.returns-in-Enum
-returns-in-Enum c = rw c.in-Enum.is c.judge_enum.ensures
-
 pub returns-in-Value : goal.returns-in-Value
 returns-in-Value c =
     let h = value_inside _ _ c.requires.2 c.in-Value.is in
     rw (c.in-Value.is, ← (name_bytes c.args.sheet.now c.in-Value.a (c.in-Value.e - c.in-Value.a) (omega arith))) c.judge_value.ensures
 
-pub returns-in-Compound : goal.returns-in-Compound
-returns-in-Compound c = rw c.in-Compound.is c.judge_compound.ensures
-
 pub returns-in-Member : goal.returns-in-Member
 returns-in-Member c =
     let h = member_inside _ _ c.requires.2 c.in-Member.is in
     rw (c.in-Member.is, ← (name_bytes c.args.sheet.now c.in-Member.a (c.in-Member.e - c.in-Member.a) (omega arith))) c.judge_member.ensures
-
-pub returns-in-Array : goal.returns-in-Array
-returns-in-Array c = rw c.in-Array.is c.judge_array.ensures
-
-pub returns-in-Real : goal.returns-in-Real
-returns-in-Real c = rw c.in-Real.is c.judge_real.ensures

@@ -13,7 +13,7 @@ overflow_sub-most c = omega (arith, c.least_of-least.ensures.1, c.requires.4)
 pub loop-i-init : goal.loop-i-init
 loop-i-init c =
     let a = c.args in
-    (omega arith, turned_start (int_by a.w.shift a.w.mask a.m) a.w.up a.w.ones a.t.now)
+    (turned_start (int_by a.w.shift a.w.mask a.m) a.w.up a.w.ones a.t.now)
 
 pub bits_in-requires : goal.bits_in-requires
 bits_in-requires c = omega (arith, c.requires.2.down)
@@ -24,7 +24,7 @@ int_near-f-requires c =
     (c.requires.3.some, c.requires.3.most, most_is c.args.m.signed c.args.m.precision c.requires.4 least, least, c.requires.4)
 
 pub overflow_add-raised : goal.overflow_add-raised
-overflow_add-raised c = omega (arith, c.loop-i.invariant.1.1.1, c.int_near-f.ensures.3)
+overflow_add-raised c = omega (arith, c.loop-i.invariant.1.1, c.int_near-f.ensures.3)
 
 pub place-requires : goal.place-requires
 place-requires c =
@@ -37,18 +37,16 @@ loop-i-preserved c =
     let l = c.loop-i in
     let a = c.args in
     let is = c.bits_in.ensures.0 in
-    let near = c.int_near-f.ensures in (
-      omega arith,
-      turned_next (int_by a.w.shift a.w.mask a.m) a.w.up a.w.ones a.t.now l.t l.i l.raised l.invariant.1 (omega arith)
-          (near.0 ∙ ap (λ (x : ℕ). (real_to_int a.m x).raw) is) (near.1 ∙ ap (λ (x : ℕ). raises (real_to_int a.m x).kind) is) near.3 c.place.ensures,
-    )
+    let near = c.int_near-f.ensures in
+    turned_next (int_by a.w.shift a.w.mask a.m) a.w.up a.w.ones a.t.now l.t l.i l.raised l.invariant (omega arith)
+    (near.0 ∙ ap (λ (x : ℕ). (real_to_int a.m x).raw) is) (near.1 ∙ ap (λ (x : ℕ). raises (real_to_int a.m x).kind) is) near.3 c.place.ensures
 
 pub shape_of-t : goal.shape_of-t
-shape_of-t c = c.loop-i.invariant.1.0.0
+shape_of-t c = c.loop-i.invariant.0.0
 
 pub returns : goal.returns
 returns c =
     let l = c.loop-i in
     let a = c.args in
     let end : l.i ≡ a.count = omega arith in
-    turned_end (int_by a.w.shift a.w.mask a.m) a.w.up a.w.ones a.t.now l.t end l.invariant.1
+    turned_end (int_by a.w.shift a.w.mask a.m) a.w.up a.w.ones a.t.now l.t end l.invariant

@@ -6,7 +6,4 @@ use Rattle.real_columns.proofs.Making.{Turned}
 use Rattle.real_columns.proofs.ints_each.Given as goal
 
 abbrev pub invariant-loop-i : goal.invariant-loop-i
-invariant-loop-i l = (l.i ≤ l.count) × Turned (λ x. real_to_int_of l.signed l.precision (bit_and (x / 2 ^ l.shift) l.mask)) l.up l.ones l.initial.t l.t l.i l.raised
-
-abbrev pub decreases-loop-i : goal.decreases-loop-i
-decreases-loop-i l = l.count - l.i
+invariant-loop-i l = Turned (λ x. real_to_int_of l.signed l.precision (bit_and (x / 2 ^ l.shift) l.mask)) l.up l.ones l.initial.t l.t l.i l.raised

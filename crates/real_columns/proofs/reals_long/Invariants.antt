@@ -5,7 +5,4 @@ use Rattle.real_columns.proofs.Making.{Turned}
 use Rattle.real_columns.proofs.reals_long.Given as goal
 
 abbrev pub invariant-loop-i : goal.invariant-loop-i
-invariant-loop-i l = (l.i ≤ l.count) × Turned (real_by l.shift l.mask l.signed l.precision) l.up l.ones l.initial.t l.t l.i l.raised
-
-abbrev pub decreases-loop-i : goal.decreases-loop-i
-decreases-loop-i l = l.count - l.i
+invariant-loop-i l = Turned (real_by l.shift l.mask l.signed l.precision) l.up l.ones l.initial.t l.t l.i l.raised

@@ -8,7 +8,7 @@ use Rattle.real_columns.proofs.reals_short.Goals as goal
 pub loop-i-init : goal.loop-i-init
 loop-i-init c =
     let a = c.args in
-    (omega arith, made_start (made a.first a.all a.w.shift a.w.mask a.w.up a.w.ones) a.t.now)
+    (made_start (made a.first a.all a.w.shift a.w.mask a.w.up a.w.ones) a.t.now)
 
 pub bits_in-requires : goal.bits_in-requires
 bits_in-requires c = omega (arith, c.requires.1.down)
@@ -24,12 +24,12 @@ loop-i-preserved c =
     let l = c.loop-i in
     let a = c.args in
     let raw = c.short_real-raw.ensures.0 ∙ ap (short_real a.first a.all) c.bits_in.ensures.0 in
-    (omega arith, made_next (made a.first a.all a.w.shift a.w.mask a.w.up a.w.ones) a.t.now l.t l.i l.invariant.1 (omega arith) (c.place.ensures ∙ ap (λ (x : ℕ). x * 2 ^ a.w.up + a.w.ones) raw))
+    (made_next (made a.first a.all a.w.shift a.w.mask a.w.up a.w.ones) a.t.now l.t l.i l.invariant (omega arith) (c.place.ensures ∙ ap (λ (x : ℕ). x * 2 ^ a.w.up + a.w.ones) raw))
 
 pub shape_of-t : goal.shape_of-t
-shape_of-t c = c.loop-i.invariant.1.0
+shape_of-t c = c.loop-i.invariant.0
 
 pub returns : goal.returns
 returns c =
     let l = c.loop-i in
-    λ i h. l.invariant.1.1 i (omega arith)
+    λ i h. l.invariant.1 i (omega arith)

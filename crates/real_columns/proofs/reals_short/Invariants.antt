@@ -9,7 +9,4 @@ abbrev pub made : ℕ → ℕ → ℕ → ℕ → ℕ → ℕ → ℕ → ℕ
 made first all shift mask up ones x = short_real first all (bit_and (x / 2 ^ shift) mask) * 2 ^ up + ones
 
 abbrev pub invariant-loop-i : goal.invariant-loop-i
-invariant-loop-i l = (l.i ≤ l.count) × Made (made l.first l.all l.shift l.mask l.up l.ones) l.initial.t l.t l.i
-
-abbrev pub decreases-loop-i : goal.decreases-loop-i
-decreases-loop-i l = l.count - l.i
+invariant-loop-i l = Made (made l.first l.all l.shift l.mask l.up l.ones) l.initial.t l.t l.i

@@ -12,8 +12,8 @@ returns-then-is_double c =
       raw_lt s d _ _ _ _ c.magnitude_of-n.ensures c.magnitude_bits.ensures.0 c.with_sign-raw.ensures c.is_double.ensures,
     )
 
-pub returns : goal.returns
-returns c =
+pub returns-else-is_double : goal.returns-else-is_double
+returns-else-is_double c =
     let p = c.split_in_range-p in
     let s = p.result.negative in
     let d = p.result.distance in

@@ -4,7 +4,4 @@ use Rattle.same_bytes.specs.Same.{Adjoin}
 use Rattle.same_bytes.proofs.run_from.Given as goal
 
 abbrev pub invariant-loop-k : goal.invariant-loop-k
-invariant-loop-k l = (l.i + l.k ≤ l.entries) × (l.bytes ≤ l.k * 4294967296) × Adjoin l.plan l.source_half l.destination_half l.i l.to l.from l.k l.bytes
-
-abbrev pub decreases-loop-k : goal.decreases-loop-k
-decreases-loop-k l = l.entries - l.k
+invariant-loop-k l = (l.bytes ≤ l.k * 4294967296) × Adjoin l.plan l.source_half l.destination_half l.i l.to l.from l.k l.bytes

@@ -5,6 +5,3 @@ use Rattle.sheets.proofs.show_next.Goals as goal
 
 pub slice_bounds-show_sheet-end : goal.slice_bounds-show_sheet-end
 slice_bounds-show_sheet-end g c = omega (arith, field_length c.args.names.now c.args.at)
-
-pub overflow_add-result : goal.overflow_add-result
-overflow_add-result g c = omega (arith, field_length c.args.names.now c.args.at)

@@ -5,7 +5,4 @@ use Rattle.symbol_columns.proofs.Symbols.{Translated}
 use Rattle.symbol_columns.proofs.span_run.Given as goal
 
 abbrev pub invariant-loop-i : goal.invariant-loop-i
-invariant-loop-i l = (l.i ≤ l.count) × Translated (symbol_in l.table l.shift l.mask l.into l.up l.ones) (missing_in l.table l.shift l.mask) l.initial.t l.t l.i l.raised
-
-abbrev pub decreases-loop-i : goal.decreases-loop-i
-decreases-loop-i l = l.count - l.i
+invariant-loop-i l = Translated (symbol_in l.table l.shift l.mask l.into l.up l.ones) (missing_in l.table l.shift l.mask) l.initial.t l.t l.i l.raised

@@ -22,43 +22,43 @@ keeps_to-requires t c =
     let onward = (turned _ _ _ _ _ _ _ c.if-depth-eq0.false (c.requires.0, c.requires.1) c.symbol_turn.ensures.0 c.in-Bases.is).onward in
     (omega (arith, pos_of_ne-zero c.if-depth-eq0.false), (onward.0, onward.1, c.symbol_turn.ensures.1))
 
-pub loop-left-init : goal.loop-left-init
-loop-left-init t c = (
+pub loop-i-init : goal.loop-i-init
+loop-i-init t c = (
   lists_start keeps_parts _ _ _ _ _ _ _ (turned _ _ _ _ _ _ _ c.if-depth-eq0.false (c.requires.0, c.requires.1) c.symbol_turn.ensures.0 c.in-Lists.is)
-      c.type_word-first.ensures c.type_word-left.ensures,
+      c.type_word-first.ensures c.type_word-n.ensures,
   omega arith,
   c.symbol_turn.ensures.1,
 )
 
-pub overflow_sub-depth-in-Both : goal.overflow_sub-depth-in-Both
-overflow_sub-depth-in-Both t c = pos_of_ne-zero c.if-depth-eq0.false
+pub overflow_sub-depth-in-Some : goal.overflow_sub-depth-in-Some
+overflow_sub-depth-in-Some t c = pos_of_ne-zero c.if-depth-eq0.false
 
-pub keeps_to-requires-in-Both : goal.keeps_to-requires-in-Both
-keeps_to-requires-in-Both t c =
-    let formed = both_formed keeps_parts _ _ _ _ _ _ _ _ _ c.loop-left.invariant.0 c.loop-left-test.true c.symbol_types.ensures c.in-Both.is in
-    (omega (arith, pos_of_ne-zero c.if-depth-eq0.false), (formed.0, formed.1, c.loop-left.invariant.2))
+pub keeps_to-requires-in-Some : goal.keeps_to-requires-in-Some
+keeps_to-requires-in-Some t c =
+    let formed = both_formed keeps_parts _ _ _ _ _ _ _ _ _ c.loop-i.invariant.0 c.loop-i-test.true c.symbol_types.ensures c.in-Some.is in
+    (omega (arith, pos_of_ne-zero c.if-depth-eq0.false), (formed.0, formed.1, c.loop-i.invariant.2))
 
 pub shape_of-seen-then-not-keeps_to : goal.shape_of-seen-then-not-keeps_to
-shape_of-seen-then-not-keeps_to t c = c.keeps_to-in-Both.ensures.1.pairs ∙ sym c.requires.2.pairs
+shape_of-seen-then-not-keeps_to t c = c.keeps_to-in-Some.ensures.1.pairs ∙ sym c.requires.2.pairs
 
 pub returns-then-not-keeps_to : goal.returns-then-not-keeps_to
 returns-then-not-keeps_to t c = (
-  sym (lists_fail keeps_parts _ _ _ _ _ _ _ _ _ c.loop-left.invariant.0 c.loop-left-test.true c.symbol_types.ensures c.in-Both.is c.keeps_to-in-Both.ensures.0 c.if-not-keeps_to.true),
-  c.keeps_to-in-Both.ensures.1,
+  sym (lists_fail keeps_parts _ _ _ _ _ _ _ _ _ c.loop-i.invariant.0 c.loop-i-test.true c.symbol_types.ensures c.in-Some.is c.keeps_to-in-Some.ensures.0 c.if-not-keeps_to.true),
+  c.keeps_to-in-Some.ensures.1,
 )
 
-pub loop-left-preserved-else-not-keeps_to : goal.loop-left-preserved-else-not-keeps_to
-loop-left-preserved-else-not-keeps_to t c = (
-  lists_pass keeps_parts _ _ _ _ _ _ _ _ _ c.loop-left.invariant.0 c.loop-left-test.true c.symbol_types.ensures c.in-Both.is c.keeps_to-in-Both.ensures.0 c.if-not-keeps_to.false,
+pub loop-i-preserved-else-not-keeps_to : goal.loop-i-preserved-else-not-keeps_to
+loop-i-preserved-else-not-keeps_to t c = (
+  lists_pass keeps_parts _ _ _ _ _ _ _ _ _ c.loop-i.invariant.0 c.loop-i-test.true c.symbol_types.ensures c.in-Some.is c.keeps_to-in-Some.ensures.0 c.if-not-keeps_to.false,
   omega arith,
-  c.keeps_to-in-Both.ensures.1,
+  c.keeps_to-in-Some.ensures.1,
 )
 
-pub loop-left-preserved : goal.loop-left-preserved
-loop-left-preserved t c = (
-  lists_pass keeps_parts _ _ _ _ _ _ _ _ _ c.loop-left.invariant.0 c.loop-left-test.true c.symbol_types.ensures c.in-Neither.is refl refl,
+pub loop-i-preserved : goal.loop-i-preserved
+loop-i-preserved t c = (
+  lists_pass keeps_parts _ _ _ _ _ _ _ _ _ c.loop-i.invariant.0 c.loop-i-test.true c.symbol_types.ensures c.in_default.is refl refl,
   omega arith,
-  c.loop-left.invariant.2,
+  c.loop-i.invariant.2,
 )
 
 pub shape_of-seen-in-Answer : goal.shape_of-seen-in-Answer
@@ -73,8 +73,8 @@ shape_of-seen-in-Bases t c = c.keeps_to.ensures.1.pairs ∙ sym c.requires.2.pai
 pub returns-in-Bases : goal.returns-in-Bases
 returns-in-Bases t c = (c.keeps_to.ensures.0 ∙ sym (turned _ _ _ _ _ _ _ c.if-depth-eq0.false (c.requires.0, c.requires.1) c.symbol_turn.ensures.0 c.in-Bases.is).is, c.keeps_to.ensures.1)
 
-pub shape_of-seen-after-loop-left : goal.shape_of-seen-after-loop-left
-shape_of-seen-after-loop-left t c = c.loop-left.invariant.2.pairs ∙ sym c.requires.2.pairs
+pub shape_of-seen-after-loop-i : goal.shape_of-seen-after-loop-i
+shape_of-seen-after-loop-i t c = c.loop-i.invariant.2.pairs ∙ sym c.requires.2.pairs
 
-pub returns-after-loop-left : goal.returns-after-loop-left
-returns-after-loop-left t c = (sym (lists_done keeps_parts _ _ _ _ _ _ _ _ _ c.loop-left.invariant.0 c.loop-left-test.false), c.loop-left.invariant.2)
+pub returns-after-loop-i : goal.returns-after-loop-i
+returns-after-loop-i t c = (sym (lists_done keeps_parts _ _ _ _ _ _ _ _ _ c.loop-i.invariant.0 c.loop-i-test.false), c.loop-i.invariant.2)

@@ -6,11 +6,8 @@ use Rattle.paths.proofs.Turns.{Remains}
 use Rattle.symbol_sets.specs.Seen.{Seen}
 use Rattle.symbol_sets.proofs.+keeps_to.Given as goal
 
-abbrev pub invariant-loop-left : goal.invariant-loop-left
-invariant-loop-left l = Remains keeps_symbols keeps_in l.depth l.source_half l.source_sheet l.source_type l.destination_half l.destination_sheet l.destination_type l.first l.left × (l.first + l.left < 8589934592) × Seen l.source_half l.source_sheet l.destination_half l.destination_sheet l.seen
-
-abbrev pub decreases-loop-left : goal.decreases-loop-left
-decreases-loop-left l = l.left
+abbrev pub invariant-loop-i : goal.invariant-loop-i
+invariant-loop-i l = Remains keeps_symbols keeps_in l.depth l.source_half l.source_sheet l.source_type l.destination_half l.destination_sheet l.destination_type l.first l.i × (l.first + l.i < 8589934592) × Seen l.source_half l.source_sheet l.destination_half l.destination_sheet l.seen
 
 abbrev pub decreases-keeps_to : goal.decreases-keeps_to
 decreases-keeps_to l = l.depth

@@ -4,14 +4,11 @@ use native.Mathlib.Omega.{arith}
 use Rattle.symbol_sets.proofs.Enums.{enum_none, enum_hit, enum_skip}
 use Rattle.symbol_sets.proofs.has_enum.Goals as goal
 
-pub loop-left-init : goal.loop-left-init
-loop-left-init c = (refl, omega arith)
-
 pub returns-then-kind_at-eq-ENUM : goal.returns-then-kind_at-eq-ENUM
-returns-then-kind_at-eq-ENUM c = sym (c.loop-left.invariant.0 ∙ enum_hit _ _ c.loop-left-test.true c.kind_at.ensures c.if-kind_at-eq-ENUM.true)
+returns-then-kind_at-eq-ENUM c = sym (c.loop-k.invariant ∙ enum_hit _ _ c.loop-k-test.true c.kind_at.ensures c.if-kind_at-eq-ENUM.true)
 
-pub loop-left-preserved : goal.loop-left-preserved
-loop-left-preserved c = (c.loop-left.invariant.0 ∙ enum_skip _ _ c.loop-left-test.true c.kind_at.ensures c.if-kind_at-eq-ENUM.false, omega arith)
+pub loop-k-preserved : goal.loop-k-preserved
+loop-k-preserved c = c.loop-k.invariant ∙ enum_skip _ _ c.loop-k-test.true c.kind_at.ensures c.if-kind_at-eq-ENUM.false
 
 pub returns : goal.returns
-returns c = sym (c.loop-left.invariant.0 ∙ enum_none _ _ c.loop-left-test.false)
+returns c = sym (c.loop-k.invariant ∙ enum_none _ _ c.loop-k-test.false)

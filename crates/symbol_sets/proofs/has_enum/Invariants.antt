@@ -4,8 +4,5 @@ use Prim.Native.Nat.{◌≤◌}
 use Rattle.symbol_sets.specs.Seen.{any_enum}
 use Rattle.symbol_sets.proofs.has_enum.Given as goal
 
-abbrev pub invariant-loop-left : goal.invariant-loop-left
-invariant-loop-left l = (any_enum l.half 64 ≡ any_enum l.half l.left) × (l.left ≤ 64)
-
-abbrev pub decreases-loop-left : goal.decreases-loop-left
-decreases-loop-left l = l.left
+abbrev pub invariant-loop-k : goal.invariant-loop-k
+invariant-loop-k l = any_enum l.half 64 ≡ any_enum l.half l.k

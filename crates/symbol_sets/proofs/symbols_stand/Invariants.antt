@@ -6,8 +6,5 @@ use Rattle.table.specs.Table.{symbols_at}
 use Rattle.symbol_sets.specs.Seen.{symbols_of_type, all_stand}
 use Rattle.symbol_sets.proofs.symbols_stand.Given as goal
 
-abbrev pub invariant-loop-left : goal.invariant-loop-left
-invariant-loop-left l = (all_stand l.source_half l.source_sheet l.source_type l.destination_half l.destination_sheet l.destination_type ≡ all_stand_in (symbols_at l.source_half l.source_sheet l.first_symbol l.left) (symbols_of_type l.destination_half l.destination_sheet l.destination_type)) × (l.first_symbol + l.left < 8589934592)
-
-abbrev pub decreases-loop-left : goal.decreases-loop-left
-decreases-loop-left l = l.left
+abbrev pub invariant-loop-i : goal.invariant-loop-i
+invariant-loop-i l = (all_stand l.source_half l.source_sheet l.source_type l.destination_half l.destination_sheet l.destination_type ≡ all_stand_in (symbols_at l.source_half l.source_sheet l.first_symbol l.i) (symbols_of_type l.destination_half l.destination_sheet l.destination_type)) × (l.first_symbol + l.i < 8589934592)

@@ -6,19 +6,19 @@ use Rattle.symbol_slots.proofs.Slots.{first_word, none_more}
 use Rattle.symbol_slots.proofs.find.Goals as goal
 
 pub loop-j-init : goal.loop-j-init
-loop-j-init c = (omega arith, λ i h e. omega arith)
+loop-j-init c = (λ i h e. omega arith)
 
 pub returns-then-tables-j : goal.returns-then-tables-j
 returns-then-tables-j c =
     let a = c.args in
     let l = c.loop-j in
-    (l.invariant.0, (λ h. first_word a.tables.now l.j ∙ c.if-tables-j.true), λ i h e. omega arith)
+    (omega arith, (λ h. first_word a.tables.now l.j ∙ c.if-tables-j.true), λ i h e. omega arith)
 
 pub loop-j-preserved : goal.loop-j-preserved
 loop-j-preserved c =
     let a = c.args in
     let l = c.loop-j in
-    (omega arith, none_more a.tables.now a.x l.j l.invariant.1 c.if-tables-j.false)
+    (none_more a.tables.now a.x l.j l.invariant c.if-tables-j.false)
 
 pub returns : goal.returns
-returns c = (omega arith, (λ h. absurd (omega arith)), λ i h e. absurd (c.loop-j.invariant.1 i (omega arith) e))
+returns c = (omega arith, (λ h. absurd (omega arith)), λ i h e. absurd (c.loop-j.invariant i (omega arith) e))

@@ -6,7 +6,4 @@ use Rattle.symbol_slots.specs.Tables.{table_in}
 use Rattle.symbol_slots.proofs.find.Given as goal
 
 abbrev pub invariant-loop-j : goal.invariant-loop-j
-invariant-loop-j l = (l.j ≤ 4) × ((i : ℕ) → i < l.j → get_or (table_in l.tables i) 0 0 ≡ l.x → ⊥)
-
-abbrev pub decreases-loop-j : goal.decreases-loop-j
-decreases-loop-j l = 4 - l.j
+invariant-loop-j l = (i : ℕ) → i < l.j → get_or (table_in l.tables i) 0 0 ≡ l.x → ⊥

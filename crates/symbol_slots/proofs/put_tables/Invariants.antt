@@ -7,8 +7,5 @@ use Rattle.symbol_slots.specs.Tables.{TablesKept, Columned}
 use Rattle.symbol_slots.proofs.put_tables.Given as goal
 
 abbrev pub invariant-loop-i : goal.invariant-loop-i
-invariant-loop-i l = (l.i ≤ l.entries) × (length l.tables ≡ length l.initial.tables) × Columned l.tables l.plan l.i l.words
+invariant-loop-i l = (length l.tables ≡ length l.initial.tables) × Columned l.tables l.plan l.i l.words
     × ((s d : ℕ) (p : Ready s d l.plan l.entries l.source_half l.destination_half l.words) → TablesKept l.tables l.source_half p.source_text l.destination_half p.destination_text)
-
-abbrev pub decreases-loop-i : goal.decreases-loop-i
-decreases-loop-i l = l.entries - l.i

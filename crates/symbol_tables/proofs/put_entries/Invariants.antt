@@ -6,7 +6,4 @@ use Rattle.symbol_tables.proofs.Steps.{Entries}
 use Rattle.symbol_tables.proofs.put_entries.Given as goal
 
 abbrev pub invariant-loop-j : goal.invariant-loop-j
-invariant-loop-j l = (l.j ≤ l.count) × (length l.table ≡ length l.initial.table) × Entries l.table l.words l.start l.j l.half l.precision
-
-abbrev pub decreases-loop-j : goal.decreases-loop-j
-decreases-loop-j l = l.count - l.j
+invariant-loop-j l = (length l.table ≡ length l.initial.table) × Entries l.table l.words l.start l.j l.half l.precision

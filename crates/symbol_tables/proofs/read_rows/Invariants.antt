@@ -6,7 +6,4 @@ use Rattle.symbol_tables.specs.Symbols.{RowsRead}
 use Rattle.symbol_tables.proofs.read_rows.Given as goal
 
 abbrev pub invariant-loop-i : goal.invariant-loop-i
-invariant-loop-i l = (l.i ≤ l.count) × (length l.rows ≡ length l.initial.rows) × RowsRead l.source_type l.destination_type l.source_half l.destination_half l.words l.place l.i l.rows
-
-abbrev pub decreases-loop-i : goal.decreases-loop-i
-decreases-loop-i l = l.count - l.i
+invariant-loop-i l = (length l.rows ≡ length l.initial.rows) × RowsRead l.source_type l.destination_type l.source_half l.destination_half l.words l.place l.i l.rows

@@ -1,18 +1,11 @@
--- `text_writing::decimal_len` meets its contract: the digits counted and those left are all, one of them twice. Assumes nothing.
-use Rattle.text_writing.proofs.Digits.{length_laws}
+-- `text_writing::decimal_len` meets its contract. Assumes nothing.
+use native.Mathlib.Omega.{arith}
+use Rattle.text.proofs.Decimals.{length_small}
+use Rattle.text_writing.proofs.Digits.{length_power}
 use Rattle.text_writing.proofs.decimal_len.Goals as goal
 
-pub loop-m-init : goal.loop-m-init
-loop-m-init c = search length_laws
+pub returns-then-n-eq0 : goal.returns-then-n-eq0
+returns-then-n-eq0 c = omega (arith, length_small c.args.n (omega arith))
 
-pub overflow_add-k : goal.overflow_add-k
-overflow_add-k c = search length_laws
-
-pub loop-m-smaller : goal.loop-m-smaller
-loop-m-smaller c = search length_laws
-
-pub loop-m-preserved : goal.loop-m-preserved
-loop-m-preserved c = search length_laws
-
-pub returns : goal.returns
-returns c = search length_laws
+pub returns-else-n-eq0 : goal.returns-else-n-eq0
+returns-else-n-eq0 c = omega (arith, length_power c.ilog10.result c.args.n c.ilog10.ensures.power_le c.ilog10.ensures.next_power_gt)

@@ -1,7 +1,7 @@
 -- `text_writing::put_decimal` meets its contract: with the last i digits of m written too, the result is whole. Assumes nothing.
 use native.Mathlib.Omega.{arith}
 use borrow.Author.Rules.{rules}
-use Rattle.text_writing.proofs.Digits.{digit_written, digits_start, digits_done}
+use Rattle.text_writing.proofs.Digits.{digit_written, digits_start}
 use Rattle.text_writing.proofs.put_decimal.Goals as goal
 
 pub loop-i-init : goal.loop-i-init
@@ -11,10 +11,4 @@ pub loop-i-preserved : goal.loop-i-preserved
 loop-i-preserved c =
     let a = c.args in
     let l = c.loop-i in
-    (search rules, search rules, digit_written l.out _ a.at l.i l.m l.invariant.2 (omega arith) (omega arith))
-
-pub returns : goal.returns
-returns c =
-    let a = c.args in
-    let l = c.loop-i in
-    (search rules, digits_done l.out _ a.at l.i l.m l.invariant.2 (omega arith))
+    digit_written l.out _ a.at l.i l.m l.invariant (omega arith) (omega arith)

@@ -4,7 +4,4 @@ use Rattle.whole_moves.proofs.Moving.{each_moved}
 use Rattle.whole_moves.proofs.move_each.Given as goal
 
 abbrev pub invariant-loop-i : goal.invariant-loop-i
-invariant-loop-i l = (l.i ≤ l.count) × (l.x ≡ l.i * l.source_size) × (l.y ≡ l.i * l.destination_size) × (length l.dst ≡ length l.initial.dst) × (l.dst ≡ each_moved l.from l.n l.to l.m l.half l.destination_byte l.source_byte l.source_size l.destination_size l.src l.i l.initial.dst)
-
-abbrev pub decreases-loop-i : goal.decreases-loop-i
-decreases-loop-i l = l.count - l.i
+invariant-loop-i l = (l.x ≡ l.i * l.source_size) × (l.y ≡ l.i * l.destination_size) × (length l.dst ≡ length l.initial.dst) × (l.dst ≡ each_moved l.from l.n l.to l.m l.half l.destination_byte l.source_byte l.source_size l.destination_size l.src l.i l.initial.dst)

@@ -8,7 +8,7 @@ use Rattle.whole_writes.proofs.Tests.{writes_more, writes_all}
 use Rattle.whole_writes.proofs.writes_each_byte.Goals as goal
 
 pub loop-i-init : goal.loop-i-init
-loop-i-init c = let a = c.args in let none : a.entries - a.entries ≡ 0 = omega arith in (omega arith, rw none refl)
+loop-i-init c = let a = c.args in let none : a.entries - a.entries ≡ 0 = omega arith in rw none refl
 
 pub bytes_anew-bytes-requires : goal.bytes_anew-bytes-requires
 bytes_anew-bytes-requires c = tt
@@ -24,13 +24,11 @@ loop-i-preserved c =
     let a = c.args in
     let l = c.loop-i in
     let e = c.entry-e in
-    let call = c.bytes_anew-bytes in (
-      omega (arith, l.invariant.0),
-      writes_more a.destination_size a.plan.now a.destination_half.now a.entries l.i (l.i - 1) l.end call.result c.loop-i-test.true l.invariant.0 refl e.ensures.0 (call.ensures.0 (omega (arith, c.if-bytes-eq0.false))) c.if-e-bytes.false l.invariant.1,
-    )
+    let call = c.bytes_anew-bytes in
+    writes_more a.destination_size a.plan.now a.destination_half.now a.entries l.i (l.i - 1) l.end call.result c.loop-i-test.true (omega arith) refl e.ensures.0 (call.ensures.0 (omega (arith, c.if-bytes-eq0.false))) c.if-e-bytes.false l.invariant
 
 pub returns : goal.returns
 returns c e =
     let a = c.args in
     let l = c.loop-i in
-    writes_all a.destination_size a.plan.now a.destination_half.now a.entries (omega (arith, c.loop-i-test.false)) (eqb-true _ _ e) l.invariant.1
+    writes_all a.destination_size a.plan.now a.destination_half.now a.entries (omega arith) (eqb-true _ _ e) l.invariant

@@ -8,7 +8,7 @@ use Rattle.paths.proofs.dimensions.are_equal.Goals as goal
 ruleset laws = (rules, equal_start, equal_none, equal_differ, equal_end, equal_go_on)
 
 pub loop-q-init : goal.loop-q-init
-loop-q-init c = (omega arith, search laws)
+loop-q-init c = search laws
 
 pub returns-then-a-q : goal.returns-then-a-q
 returns-then-a-q c = search laws
@@ -17,7 +17,7 @@ pub returns-then-a-q-eq0 : goal.returns-then-a-q-eq0
 returns-then-a-q-eq0 c = search laws
 
 pub loop-q-preserved : goal.loop-q-preserved
-loop-q-preserved c = (omega arith, search laws)
+loop-q-preserved c = search laws
 
 pub returns : goal.returns
 returns c = search laws

@@ -20,8 +20,8 @@ enum_known-j c = search step_laws
 pub row_word-requires : goal.row_word-requires
 row_word-requires c = search step_laws
 
-pub row_word-requires-in-At : goal.row_word-requires-in-At
-row_word-requires-in-At c = search step_laws
+pub row_word-requires-in-Some : goal.row_word-requires-in-Some
+row_word-requires-in-Some c = search step_laws
 
 pub minus-requires : goal.minus-requires
 minus-requires c = search step_laws
@@ -41,11 +41,11 @@ type_word-y-requires c = search step_laws
 pub remainder-requires : goal.remainder-requires
 remainder-requires c = search step_laws
 
-pub returns-in-At : goal.returns-in-At
-returns-in-At c = search step_laws
+pub returns-in-Some : goal.returns-in-Some
+returns-in-Some c = search step_laws
 
-pub returns-in-Missing : goal.returns-in-Missing
-returns-in-Missing c = search step_laws
+pub returns-in-None : goal.returns-in-None
+returns-in-None c = search step_laws
 
 pub returns-then-byte-z : goal.returns-then-byte-z
 returns-then-byte-z c = search step_laws

@@ -3,11 +3,11 @@ use native.Mathlib.Omega.{arith}
 use Rattle.paths.proofs.Rows.{gap_start, gap_next, gap_all}
 use Rattle.paths.proofs.types.gap_end.Goals as goal
 
-pub loop-left-init : goal.loop-left-init
-loop-left-init c = (gap_start _ _ _ _ _ (omega arith), omega arith)
+pub loop-i-init : goal.loop-i-init
+loop-i-init c = gap_start _ _ _ _ _ (omega arith)
 
-pub loop-left-preserved : goal.loop-left-preserved
-loop-left-preserved c = (gap_next _ _ _ _ _ _ _ _ _ c.loop-left.invariant.0 c.loop-left-test.true c.row_word-o.ensures c.nearer-at.ensures, omega arith)
+pub loop-i-preserved : goal.loop-i-preserved
+loop-i-preserved c = gap_next _ _ _ _ _ _ _ _ _ c.loop-i.invariant c.loop-i-test.true c.row_word-o.ensures c.nearer-at.ensures
 
 pub returns : goal.returns
-returns c = gap_all _ _ _ _ _ _ _ c.loop-left.invariant.0 c.loop-left-test.false
+returns c = gap_all _ _ _ _ _ _ _ c.loop-i.invariant c.loop-i-test.false

@@ -3,8 +3,5 @@ use Prim.Native.Nat.{◌≤◌}
 use Rattle.paths.specs.Steps.{GapEnd}
 use Rattle.paths.proofs.types.gap_end.Given as goal
 
-abbrev pub invariant-loop-left : goal.invariant-loop-left
-invariant-loop-left l = GapEnd l.half l.first l.left l.n l.byte l.end l.at × (l.left ≤ l.n)
-
-abbrev pub decreases-loop-left : goal.decreases-loop-left
-decreases-loop-left l = l.left
+abbrev pub invariant-loop-i : goal.invariant-loop-i
+invariant-loop-i l = GapEnd l.half l.first l.i l.n l.byte l.end l.at

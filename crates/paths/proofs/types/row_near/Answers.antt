@@ -3,20 +3,11 @@ use native.Mathlib.Omega.{arith}
 use Rattle.paths.proofs.Rows.{over_rows, over_place}
 use Rattle.paths.proofs.types.row_near.Goals as goal
 
-pub loop-left-init : goal.loop-left-init
-loop-left-init c = tt
-
 pub returns-then-n-at : goal.returns-then-n-at
 returns-then-n-at c = over_rows _ _ _ _ c.row_over.ensures
 
 pub returns-then-row_covers : goal.returns-then-row_covers
 returns-then-row_covers c = over_place _ _ _ _ _ (omega arith) c.row_covers.ensures c.if-row_covers.true
-
-pub loop-left-preserved-then-byte-row_word : goal.loop-left-preserved-then-byte-row_word
-loop-left-preserved-then-byte-row_word c = tt
-
-pub loop-left-preserved : goal.loop-left-preserved
-loop-left-preserved c = tt
 
 pub returns : goal.returns
 returns c = over_rows _ _ _ _ c.row_over-2.ensures

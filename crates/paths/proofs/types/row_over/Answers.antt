@@ -4,14 +4,11 @@ use native.Mathlib.Omega.{arith}
 use Rattle.paths.proofs.Rows.{over_none, over_hit, over_skip}
 use Rattle.paths.proofs.types.row_over.Goals as goal
 
-pub loop-left-init : goal.loop-left-init
-loop-left-init c = (refl, omega arith)
-
 pub returns-then-row_covers : goal.returns-then-row_covers
-returns-then-row_covers c = sym (c.loop-left.invariant.0 ∙ over_hit _ _ _ _ c.loop-left-test.true c.row_covers.ensures c.if-row_covers.true)
+returns-then-row_covers c = sym (c.loop-i.invariant ∙ over_hit _ _ _ _ c.loop-i-test.true c.row_covers.ensures c.if-row_covers.true)
 
-pub loop-left-preserved : goal.loop-left-preserved
-loop-left-preserved c = (c.loop-left.invariant.0 ∙ over_skip _ _ _ _ c.loop-left-test.true c.row_covers.ensures c.if-row_covers.false, omega arith)
+pub loop-i-preserved : goal.loop-i-preserved
+loop-i-preserved c = c.loop-i.invariant ∙ over_skip _ _ _ _ c.loop-i-test.true c.row_covers.ensures c.if-row_covers.false
 
 pub returns : goal.returns
-returns c = sym (c.loop-left.invariant.0 ∙ over_none _ _ _ _ c.loop-left-test.false)
+returns c = sym (c.loop-i.invariant ∙ over_none _ _ _ _ c.loop-i-test.false)

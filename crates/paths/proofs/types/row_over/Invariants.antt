@@ -4,8 +4,5 @@ use mathlib.Core.Path.{◌≡◌}
 use Rattle.paths.specs.Steps.{row_over}
 use Rattle.paths.proofs.types.row_over.Given as goal
 
-abbrev pub invariant-loop-left : goal.invariant-loop-left
-invariant-loop-left l = (row_over l.half l.first l.n l.byte ≡ row_over l.half l.first l.left l.byte) × (l.left ≤ l.n)
-
-abbrev pub decreases-loop-left : goal.decreases-loop-left
-decreases-loop-left l = l.left
+abbrev pub invariant-loop-i : goal.invariant-loop-i
+invariant-loop-i l = row_over l.half l.first l.n l.byte ≡ row_over l.half l.first l.i l.byte

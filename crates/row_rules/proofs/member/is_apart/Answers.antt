@@ -7,14 +7,11 @@ use mathlib.Core.Path.{ap}
 use mathlib.Core.Bool.{not}
 use Rattle.row_rules.proofs.member.is_apart.Goals as goal
 
-pub loop-left-init : goal.loop-left-init
-loop-left-init c = (refl, omega arith)
-
 pub returns-then-not-is_beside : goal.returns-then-not-is_beside
-returns-then-not-is_beside c = sym (c.loop-left.invariant.0 ∙ apart_hit _ _ _ _ _ c.loop-left-test.true c.is_beside.ensures (not-true _ (ap not c.if-not-is_beside.true)))
+returns-then-not-is_beside c = sym (c.loop-i.invariant ∙ apart_hit _ _ _ _ _ c.loop-i-test.true c.is_beside.ensures (not-true _ (ap not c.if-not-is_beside.true)))
 
-pub loop-left-preserved : goal.loop-left-preserved
-loop-left-preserved c = (c.loop-left.invariant.0 ∙ apart_skip _ _ _ _ _ c.loop-left-test.true c.is_beside.ensures (not-false _ (ap not c.if-not-is_beside.false)), omega arith)
+pub loop-i-preserved : goal.loop-i-preserved
+loop-i-preserved c = c.loop-i.invariant ∙ apart_skip _ _ _ _ _ c.loop-i-test.true c.is_beside.ensures (not-false _ (ap not c.if-not-is_beside.false))
 
 pub returns : goal.returns
-returns c = sym (c.loop-left.invariant.0 ∙ apart_none _ _ _ _ _ c.loop-left-test.false)
+returns c = sym (c.loop-i.invariant ∙ apart_none _ _ _ _ _ c.loop-i-test.false)

@@ -4,8 +4,5 @@ use mathlib.Core.Path.{◌≡◌}
 use Rattle.sheet_steps.specs.Steps.{apart_at}
 use Rattle.row_rules.proofs.member.is_apart.Given as goal
 
-abbrev pub invariant-loop-left : goal.invariant-loop-left
-invariant-loop-left l = (apart_at l.half l.first l.n l.offset l.width ≡ apart_at l.half l.first l.left l.offset l.width) × (l.left ≤ l.n)
-
-abbrev pub decreases-loop-left : goal.decreases-loop-left
-decreases-loop-left l = l.left
+abbrev pub invariant-loop-i : goal.invariant-loop-i
+invariant-loop-i l = apart_at l.half l.first l.n l.offset l.width ≡ apart_at l.half l.first l.i l.offset l.width

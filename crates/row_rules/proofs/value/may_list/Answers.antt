@@ -25,17 +25,17 @@ returns-then-not-is_new c =
     let name = name_missing a.half.now a.sheet.now (bytes_at a.sheet.now a.start a.len) _ _ refl c.is_new.ensures ∙ not-true _ (ap not c.if-not-is_new.true) in
     rw (← c.type_word-first.ensures.is, ← c.type_word-rows.ensures.is, name) refl
 
-pub returns-then-not-is_missing : goal.returns-then-not-is_missing
-returns-then-not-is_missing c =
+pub returns-then-is_some : goal.returns-then-is_some
+returns-then-is_some c =
     let a = c.args in
     let name = name_missing a.half.now a.sheet.now (bytes_at a.sheet.now a.start a.len) _ _ refl c.is_new.ensures ∙ not-false _ (ap not c.if-not-is_new.false) in
-    let number = number_missing _ a.sheet.now _ _ _ c.row_numbered.ensures c.is_missing.ensures ∙ not-true _ (ap not c.if-not-is_missing.true) in
+    let number = number_missing _ a.sheet.now _ _ _ c.row_numbered.ensures c.is_some.ensures ∙ ap not c.if-is_some.true in
     rw (← c.type_word-first.ensures.is, ← c.type_word-rows.ensures.is, name, number) refl
 
 pub returns : goal.returns
 returns c =
     let a = c.args in
     let name = name_missing a.half.now a.sheet.now (bytes_at a.sheet.now a.start a.len) _ _ refl c.is_new.ensures ∙ not-false _ (ap not c.if-not-is_new.false) in
-    let number = number_missing _ a.sheet.now _ _ _ c.row_numbered.ensures c.is_missing.ensures ∙ not-false _ (ap not c.if-not-is_missing.false) in
+    let number = number_missing _ a.sheet.now _ _ _ c.row_numbered.ensures c.is_some.ensures ∙ ap not c.if-is_some.false in
     rw (← c.type_word-first.ensures.is, ← c.type_word-rows.ensures.is, name, number, ← c.layout_at.ensures.0)
     c.in_range.ensures

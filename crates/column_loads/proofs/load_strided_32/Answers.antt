@@ -1,8 +1,0 @@
--- `column_loads::load_strided_32` meets its contract. Assumes nothing.
-use Rattle.column_loads.proofs.load_strided_32.Goals as goal
-
-pub returns-in-LE : goal.returns-in-LE
-returns-in-LE c = rw c.in-LE.is c.load_le_32.ensures
-
-pub returns-in-BE : goal.returns-in-BE
-returns-in-BE c = rw c.in-BE.is c.load_be_32.ensures

@@ -1,8 +1,0 @@
--- `loading::le2` meets its contract. Assumes nothing.
-use native.Mathlib.Omega.{arith}
-use Rattle.bits.specs.declared.Order.TheVariants.{LE}
-use Rattle.bits.proofs.Words.{by_bytes}
-use Rattle.loading.proofs.le2.Goals as goal
-
-pub returns : goal.returns
-returns c = (omega (arith, by_bytes LE 2 c.args.s.now c.args.at c.requires), omega arith)
