@@ -11,11 +11,15 @@ use line_columns::{next_line, number_column};
 pub fn array_line(s: &[u8], q: usize) -> Option<ReadLine>
     ensures { Reads s.now result (columns_reading s.now q array_line_of) }
 {
-    let base = number_column(s, q)?;
+    let Some(base) = number_column(s, q) else {
+        return None;
+    };
     let mut dims = [0u32; 4];
     let mut at = base.end;
     for n in 0..4 {
-        let dimension = number_column(s, at)?;
+        let Some(dimension) = number_column(s, at) else {
+            return None;
+        };
         if dimension.value == 0 {
             return None;
         }

@@ -16,12 +16,24 @@ use text::Field;
 fn layout_columns(s: &[u8], q: usize, class: Class) -> Option<Field<Layout>>
     ensures { result ≡ layout_at class s.now q }
 {
-    let size = number_column(s, q)?;
-    let order = order_column(s, size.end)?;
-    let offset = number_column(s, order.end)?;
-    let precision = number_column(s, offset.end)?;
-    let lsb = pad_column(s, precision.end)?;
-    let msb = pad_column(s, lsb.end)?;
+    let Some(size) = number_column(s, q) else {
+        return None;
+    };
+    let Some(order) = order_column(s, size.end) else {
+        return None;
+    };
+    let Some(offset) = number_column(s, order.end) else {
+        return None;
+    };
+    let Some(precision) = number_column(s, offset.end) else {
+        return None;
+    };
+    let Some(lsb) = pad_column(s, precision.end) else {
+        return None;
+    };
+    let Some(msb) = pad_column(s, lsb.end) else {
+        return None;
+    };
     let value = Layout {
         class,
         size: ByteAt(size.value as usize),
@@ -39,9 +51,15 @@ fn layout_columns(s: &[u8], q: usize, class: Class) -> Option<Field<Layout>>
 pub fn int_line(s: &[u8], q: usize) -> Option<Line>
     ensures { Reads s.now (option_map plain_line result) (columns_reading s.now q int_line) }
 {
-    let layout = layout_columns(s, q, Class::Int)?;
-    let sign = sign_column(s, layout.end)?;
-    let next = next_line(s, sign.end)?;
+    let Some(layout) = layout_columns(s, q, Class::Int) else {
+        return None;
+    };
+    let Some(sign) = sign_column(s, layout.end) else {
+        return None;
+    };
+    let Some(next) = next_line(s, sign.end) else {
+        return None;
+    };
     let layout = Layout {
         signed: sign.value,
         ..layout.value
@@ -52,16 +70,26 @@ pub fn int_line(s: &[u8], q: usize) -> Option<Line>
 pub fn bits_line(s: &[u8], q: usize) -> Option<Line>
     ensures { Reads s.now (option_map plain_line result) (columns_reading s.now q bits_line) }
 {
-    let layout = layout_columns(s, q, Class::Bits)?;
-    let next = next_line(s, layout.end)?;
+    let Some(layout) = layout_columns(s, q, Class::Bits) else {
+        return None;
+    };
+    let Some(next) = next_line(s, layout.end) else {
+        return None;
+    };
     Some(Line::Atomic(layout.value, next))
 }
 
 pub fn real_line(s: &[u8], q: usize) -> Option<Line>
     ensures { Reads s.now (option_map plain_line result) (columns_reading s.now q real_line_of) }
 {
-    let size = number_column(s, q)?;
-    let order = order_column(s, size.end)?;
-    let next = next_line(s, order.end)?;
+    let Some(size) = number_column(s, q) else {
+        return None;
+    };
+    let Some(order) = order_column(s, size.end) else {
+        return None;
+    };
+    let Some(next) = next_line(s, order.end) else {
+        return None;
+    };
     Some(Line::Real(size.value, order.value, next))
 }

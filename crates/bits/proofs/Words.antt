@@ -1,16 +1,16 @@
--- Bytes one by one, read by straight-line code. Each law is over the order and the size. Assumes nothing.
+-- Bytes one by one, read and written by straight-line code. Each law is over the order and the size. Assumes nothing.
 use mathlib.Core.Path.{◌≡◌, refl, sym, ap, ◌∙◌}
 use mathlib.Core.List.{List, [], ◌∷◌, ◌++◌, reverse, reverse-append}
 use Prim.Native.Nat.{ℕ, zero, suc, ◌+◌, ◌*◌, ◌^◌, ◌≤◌, ◌<◌}
 use native.Mathlib.Nat.{le_of_suc-le-suc, not-suc-le-zero, add_comm}
 use native.Mathlib.Omega.{arith}
-use lib.ListN.{length, get_or, take, drop, length-reverse, length-drop}
-use lib.Seq.{length-take-le, take-add, drop-drop, ext_get_or}
+use lib.ListN.{length, get_or, set, take, drop, length-reverse, length-drop}
+use lib.Seq.{paste, paste-zero, paste-suc, length-take-le, take-add, drop-drop, ext_get_or}
 use Rattle.bits.specs.declared.Order.{Order}
 use Rattle.bits.specs.declared.Order.TheVariants.{LE, BE}
-use Rattle.bits.specs.Container.{arranged, from_digits, container}
-use Rattle.bits.specs.Index.{index_of}
-use Rattle.bits.proofs.Digits.{digits_append, part_length, part_at}
+use Rattle.bits.specs.Container.{arranged, from_digits, container, contained}
+use Rattle.bits.specs.Index.{index_of, set_all}
+use Rattle.bits.proofs.Digits.{digits_append, contained_length, part_length, part_at}
 
 -- ---- reading
 
@@ -76,3 +76,35 @@ two_parts o s at m n h = ap (container o) (take-add m n (drop at s) ∙ ap (λ (
     parts BE =
         ap from_digits (reverse-append a b) ∙ digits_append (reverse b) (reverse a)
         ∙ ap (λ (k : ℕ). from_digits (reverse a) * 2 ^ (8 * k) + from_digits (reverse b)) (length-reverse b ∙ eb)
+
+-- ---- writing
+
+-- m elements written from i on, and then n more
+pub set_on : (d d₁ d₂ : List ℕ) (at : ℕ) (l : List ℕ) (i m n : ℕ) → d₁ ≡ set_all d at l i m → d₂ ≡ set_all d₁ at l (i + m) n → d₂ ≡ set_all d at l i (m + n)
+set_on d d₁ d₂ at l i m n e f = f ∙ ap (λ (x : List ℕ). set_all x at l (i + m) n) e ∙ both d i m
+  where
+    both : (d : List ℕ) (i m : ℕ) → set_all (set_all d at l i m) at l (i + m) n ≡ set_all d at l i (m + n)
+    both d i zero =
+        let p : i + 0 ≡ i = omega arith in
+        let q : 0 + n ≡ n = omega arith in
+        rw (p, q)
+    both d i (suc m) =
+        let p : i + suc m ≡ suc i + m = omega arith in
+        let q : suc m + n ≡ suc (m + n) = omega arith in
+        rw (p, q) (both (set d (at + i) (get_or l i 0)) (suc i) m)
+
+set_all_lem : (d : List ℕ) (at : ℕ) (l : List ℕ) (k n : ℕ) → k + n ≤ length l → at + length l ≤ length d → set_all (paste d at l k) at l k n ≡ paste d at l (k + n)
+set_all_lem d at l k zero hl hd =
+    let e : k ≡ k + 0 = omega arith in
+    ap (paste d at l) e
+set_all_lem d at l k (suc n) hl hd =
+    let e : suc k + n ≡ k + suc n = omega arith in
+    ap (λ (x : List ℕ). set_all x at l (suc k) n) (paste-suc d at l k 0 (omega arith) (omega arith))
+    ∙ set_all_lem d at l (suc k) n (omega arith) hd ∙ ap (paste d at l) e
+
+pub put_all : (d d₁ : List ℕ) (at : ℕ) (o : Order) (n c : ℕ) → at + n ≤ length d → d₁ ≡ set_all d at (contained o n c) 0 n → d₁ ≡ paste d at (contained o n c) n
+put_all d d₁ at o n c h f =
+    let e : 0 + n ≡ n = omega arith in
+    f ∙ ap (λ (x : List ℕ). set_all x at (contained o n c) 0 n) (paste-zero d at (contained o n c))
+    ∙ set_all_lem d at (contained o n c) 0 n (rw (contained_length o n c) (omega arith)) (rw (contained_length o n c) h)
+    ∙ ap (paste d at (contained o n c)) e

@@ -1,5 +1,5 @@
 -- What the functions inside this crate promise of single bytes. No meaning of document 01 stands here.
-use Rattle.std.specs.Prelude.{ℕ, suc, ◌-◌}
+use Rattle.std.specs.Prelude.{List, ℕ, zero, suc, ◌+◌, ◌-◌, set, get_or}
 use Rattle.bits.specs.declared.Order.{Order}
 use Rattle.bits.specs.declared.Order.TheVariants.{LE, BE}
 
@@ -7,3 +7,8 @@ use Rattle.bits.specs.declared.Order.TheVariants.{LE, BE}
 abbrev pub index_of : Order → ℕ → ℕ → ℕ
 index_of LE n k = k
 index_of BE n k = n - suc k
+
+-- d with l's elements from k on written one after the other to index at + k on
+abbrev pub set_all : List ℕ → ℕ → List ℕ → ℕ → ℕ → List ℕ
+set_all d at l k zero = d
+set_all d at l k (suc n) = set_all (set d (at + k) (get_or l k 0)) at l (suc k) n

@@ -11,17 +11,27 @@ use line_columns::{name_column, next_line, number_column, whole_column, word_col
 pub fn enum_line(s: &[u8], q: usize) -> Option<Line>
     ensures { Reads s.now (option_map plain_line result) (columns_reading s.now q enum_line_of) }
 {
-    let base = number_column(s, q)?;
-    let next = next_line(s, base.end)?;
+    let Some(base) = number_column(s, q) else {
+        return None;
+    };
+    let Some(next) = next_line(s, base.end) else {
+        return None;
+    };
     Some(Line::Enum(base.value, next))
 }
 
 pub fn value_line(s: &[u8], q: usize) -> Option<Line>
     ensures { Reads s.now (option_map plain_line result) (columns_reading s.now q value_line_of) }
 {
-    let name = name_column(s, q)?;
-    let number = whole_column(s, name.end)?;
-    let next = next_line(s, number.end)?;
+    let Some(name) = name_column(s, q) else {
+        return None;
+    };
+    let Some(number) = whole_column(s, name.end) else {
+        return None;
+    };
+    let Some(next) = next_line(s, number.end) else {
+        return None;
+    };
     Some(Line::Value(
         name.start,
         name.end,
@@ -34,19 +44,33 @@ pub fn value_line(s: &[u8], q: usize) -> Option<Line>
 pub fn comp_line(s: &[u8], q: usize) -> Option<Line>
     ensures { Reads s.now (option_map plain_line result) (columns_reading s.now q compound_line_of) }
 {
-    let size = number_column(s, q)?;
-    let next = next_line(s, size.end)?;
+    let Some(size) = number_column(s, q) else {
+        return None;
+    };
+    let Some(next) = next_line(s, size.end) else {
+        return None;
+    };
     Some(Line::Compound(size.value, next))
 }
 
 pub fn member_line(s: &[u8], q: usize) -> Option<Line>
     ensures { Reads s.now (option_map plain_line result) (columns_reading s.now q member_line_of) }
 {
-    let name = name_column(s, q)?;
-    let offset = number_column(s, name.end)?;
-    let kind = number_column(s, offset.end)?;
-    let word = word_column(s, kind.end)?;
-    let next = next_line(s, word.end)?;
+    let Some(name) = name_column(s, q) else {
+        return None;
+    };
+    let Some(offset) = number_column(s, name.end) else {
+        return None;
+    };
+    let Some(kind) = number_column(s, offset.end) else {
+        return None;
+    };
+    let Some(word) = word_column(s, kind.end) else {
+        return None;
+    };
+    let Some(next) = next_line(s, word.end) else {
+        return None;
+    };
     Some(Line::Member(
         name.start,
         name.end,

@@ -2,23 +2,23 @@
 use Rattle.line.proofs.Arrays.{array_laws}
 use Rattle.array_lines.proofs.array_line.Goals as goal
 
-pub returns-in_err-base : goal.returns-in_err-base
-returns-in_err-base c = search (array_laws, c.in_err-base.ensures)
+pub returns-in_default : goal.returns-in_default
+returns-in_default c = search (array_laws, c.in_default.ensures)
 
 pub loop-n-init : goal.loop-n-init
-loop-n-init c = search (array_laws, c.in_ok-base.ensures)
+loop-n-init c = search (array_laws, c.in-Some.ensures)
 
-pub returns-in_err-dimension : goal.returns-in_err-dimension
-returns-in_err-dimension c = search (array_laws, c.in_err-dimension.ensures)
+pub returns-in_default-number_column : goal.returns-in_default-number_column
+returns-in_default-number_column c = search (array_laws, c.in_default-number_column.ensures)
 
 pub returns-then-dimension-eq0 : goal.returns-then-dimension-eq0
-returns-then-dimension-eq0 c = search (array_laws, c.in_ok-dimension.ensures)
+returns-then-dimension-eq0 c = search (array_laws, c.in-Some-number_column.ensures)
 
-pub returns-in-Some : goal.returns-in-Some
-returns-in-Some c = search (array_laws, c.in_ok-dimension.ensures, c.in-Some.ensures)
+pub returns-in-Some-next_line : goal.returns-in-Some-next_line
+returns-in-Some-next_line c = search (array_laws, c.in-Some-number_column.ensures, c.in-Some-next_line.ensures)
 
 pub loop-n-preserved : goal.loop-n-preserved
-loop-n-preserved c = search (array_laws, c.in_ok-dimension.ensures, c.in_default.ensures)
+loop-n-preserved c = search (array_laws, c.in-Some-number_column.ensures, c.in_default-next_line.ensures)
 
 pub returns : goal.returns
 returns c = search array_laws

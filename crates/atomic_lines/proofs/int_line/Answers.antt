@@ -2,14 +2,14 @@
 use Rattle.line.proofs.Readings.{line_laws}
 use Rattle.atomic_lines.proofs.int_line.Goals as goal
 
-pub returns-in_err-layout : goal.returns-in_err-layout
-returns-in_err-layout c = search (line_laws, c.in_err-layout.ensures) depth 12
+pub returns-in_default : goal.returns-in_default
+returns-in_default c = search (line_laws, c.in_default.ensures) depth 12
 
-pub returns-in_err-sign : goal.returns-in_err-sign
-returns-in_err-sign c = search (line_laws, c.in_ok-layout.ensures, c.in_err-sign.ensures) depth 12
+pub returns-in_default-sign_column : goal.returns-in_default-sign_column
+returns-in_default-sign_column c = search (line_laws, c.in-Some.ensures, c.in_default-sign_column.ensures) depth 12
 
-pub returns-in_err-next : goal.returns-in_err-next
-returns-in_err-next c = search (line_laws, c.in_ok-layout.ensures, c.in_ok-sign.ensures, c.in_err-next.ensures) depth 12
+pub returns-in_default-next_line : goal.returns-in_default-next_line
+returns-in_default-next_line c = search (line_laws, c.in-Some.ensures, c.in-Some-sign_column.ensures, c.in_default-next_line.ensures) depth 12
 
 pub returns : goal.returns
-returns c = search (line_laws, c.in_ok-layout.ensures, c.in_ok-sign.ensures, c.in_ok-next.ensures) depth 12
+returns c = search (line_laws, c.in-Some.ensures, c.in-Some-sign_column.ensures, c.in-Some-next_line.ensures) depth 12

@@ -3,29 +3,29 @@ use Rattle.line.specs.Column.{layout_at, on_found}
 use Rattle.line.proofs.Answers.{on_laws}
 use Rattle.atomic_lines.proofs.layout_columns.Goals as goal
 
-pub returns-in_err-size : goal.returns-in_err-size
+pub returns-in_default : goal.returns-in_default
 unfolding layout_at on_found
-returns-in_err-size c = search on_laws depth 9
+returns-in_default c = search on_laws depth 9
 
-pub returns-in_err-order : goal.returns-in_err-order
+pub returns-in_default-order_column : goal.returns-in_default-order_column
 unfolding layout_at on_found
-returns-in_err-order c = search on_laws depth 9
+returns-in_default-order_column c = search on_laws depth 9
 
-pub returns-in_err-offset : goal.returns-in_err-offset
+pub returns-in_default-number_column : goal.returns-in_default-number_column
 unfolding layout_at on_found
-returns-in_err-offset c = search on_laws depth 9
+returns-in_default-number_column c = search on_laws depth 9
 
-pub returns-in_err-precision : goal.returns-in_err-precision
+pub returns-in_default-number_column-2 : goal.returns-in_default-number_column-2
 unfolding layout_at on_found
-returns-in_err-precision c = search on_laws depth 9
+returns-in_default-number_column-2 c = search on_laws depth 9
 
-pub returns-in_err-lsb : goal.returns-in_err-lsb
+pub returns-in_default-pad_column : goal.returns-in_default-pad_column
 unfolding layout_at on_found
-returns-in_err-lsb c = search on_laws depth 9
+returns-in_default-pad_column c = search on_laws depth 9
 
-pub returns-in_err-msb : goal.returns-in_err-msb
+pub returns-in_default-pad_column-2 : goal.returns-in_default-pad_column-2
 unfolding layout_at on_found
-returns-in_err-msb c = search on_laws depth 9
+returns-in_default-pad_column-2 c = search on_laws depth 9
 
 pub returns : goal.returns
 unfolding layout_at on_found

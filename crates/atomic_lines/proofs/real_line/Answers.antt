@@ -3,18 +3,18 @@ use Rattle.line.specs.Line.{real_line_of}
 use Rattle.line.proofs.Readings.{line_laws}
 use Rattle.atomic_lines.proofs.real_line.Goals as goal
 
-pub returns-in_err-size : goal.returns-in_err-size
+pub returns-in_default : goal.returns-in_default
 unfolding real_line_of
-returns-in_err-size c = search (line_laws, c.in_err-size.ensures) depth 12
+returns-in_default c = search (line_laws, c.in_default.ensures) depth 12
 
-pub returns-in_err-order : goal.returns-in_err-order
+pub returns-in_default-order_column : goal.returns-in_default-order_column
 unfolding real_line_of
-returns-in_err-order c = search (line_laws, c.in_ok-size.ensures, c.in_err-order.ensures) depth 12
+returns-in_default-order_column c = search (line_laws, c.in-Some.ensures, c.in_default-order_column.ensures) depth 12
 
-pub returns-in_err-next : goal.returns-in_err-next
+pub returns-in_default-next_line : goal.returns-in_default-next_line
 unfolding real_line_of
-returns-in_err-next c = search (line_laws, c.in_ok-size.ensures, c.in_ok-order.ensures, c.in_err-next.ensures) depth 12
+returns-in_default-next_line c = search (line_laws, c.in-Some.ensures, c.in-Some-order_column.ensures, c.in_default-next_line.ensures) depth 12
 
 pub returns : goal.returns
 unfolding real_line_of
-returns c = search (line_laws, c.in_ok-size.ensures, c.in_ok-order.ensures, c.in_ok-next.ensures) depth 12
+returns c = search (line_laws, c.in-Some.ensures, c.in-Some-order_column.ensures, c.in-Some-next_line.ensures) depth 12

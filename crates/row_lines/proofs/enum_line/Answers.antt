@@ -3,14 +3,14 @@ use Rattle.line.specs.Line.{enum_line_of}
 use Rattle.line.proofs.Readings.{line_laws}
 use Rattle.row_lines.proofs.enum_line.Goals as goal
 
-pub returns-in_err-base : goal.returns-in_err-base
+pub returns-in_default : goal.returns-in_default
 unfolding enum_line_of
-returns-in_err-base c = search (line_laws, c.in_err-base.ensures) depth 12
+returns-in_default c = search (line_laws, c.in_default.ensures) depth 12
 
-pub returns-in_err-next : goal.returns-in_err-next
+pub returns-in_default-next_line : goal.returns-in_default-next_line
 unfolding enum_line_of
-returns-in_err-next c = search (line_laws, c.in_ok-base.ensures, c.in_err-next.ensures) depth 12
+returns-in_default-next_line c = search (line_laws, c.in-Some.ensures, c.in_default-next_line.ensures) depth 12
 
 pub returns : goal.returns
 unfolding enum_line_of
-returns c = search (line_laws, c.in_ok-base.ensures, c.in_ok-next.ensures) depth 12
+returns c = search (line_laws, c.in-Some.ensures, c.in-Some-next_line.ensures) depth 12
