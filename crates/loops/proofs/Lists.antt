@@ -1,15 +1,25 @@
 -- Laws on lists and products that the record loops share. Nothing here knows what a record is. Assumes nothing.
-use mathlib.Core.Path.{◌≡◌, sym, ap, subst, ◌∙◌}
-use mathlib.Core.List.{List, ◌++◌, append_assoc}
-use Prim.Native.Nat.{ℕ, ◌+◌, ◌*◌, ◌-◌, ◌≤◌, ◌<◌}
-use native.Mathlib.Nat.{suc-mul, mul-le-mul_right, le_refl}
+use mathlib.Core.Path.{◌≡◌, refl, sym, ap, subst, ◌∙◌}
+use mathlib.Core.List.{List, [], ◌∷◌, ◌++◌, append_assoc}
+use Prim.Native.Nat.{ℕ, zero, suc, ◌+◌, ◌*◌, ◌-◌, ◌≤◌, ◌<◌}
+use native.Mathlib.Nat.{not-suc-le-zero, le_of_suc-le-suc, suc-mul, mul-le-mul_right, le_refl}
 use native.Mathlib.Numerals.{add-one}
 use native.Mathlib.Omega.{arith}
-use lib.ListN.{length, take, drop, length-append, length-drop, take-append-drop}
+use lib.ListN.{length, take, drop, set, get_or, length-append, length-drop, take-append-drop}
 use lib.Seq.{take-add, take_at, drop_at, drop-drop, take-take, take-append-le, length-take-le}
 use borrow.Rule.Slice.PartMut.{put_mid}
 use Rattle.easy.proofs.Lent.{lent_whole}
 use Rattle.loops.specs.Steps.{put}
+
+copy_suc : (j : ℕ) (s d : List ℕ) → j < length s → j < length d → set (take j s ++ drop j d) j (get_or s j 0) ≡ take (suc j) s ++ drop (suc j) d
+copy_suc j [] d h k = absurd (not-suc-le-zero h)
+copy_suc j (x ∷ s) [] h k = absurd (not-suc-le-zero k)
+copy_suc zero (x ∷ s) (y ∷ d) h k = refl
+copy_suc (suc j) (x ∷ s) (y ∷ d) h k = ap (λ (t : List ℕ). x ∷ t) (copy_suc j s d (le_of_suc-le-suc h) (le_of_suc-le-suc k))
+
+-- one byte more is copied
+pub copy_more : (j : ℕ) (s d : List ℕ) → j < length s → j < length d → set (take j s ++ drop j d) j (get_or s j 0) ≡ take (j + 1) s ++ drop (j + 1) d
+copy_more j s d h k = rw add-one (copy_suc j s d h k)
 
 -- ---- products, for omega's list
 

@@ -49,7 +49,9 @@ fn has_number(half: &[u32], row: usize, negative: bool, distance: u64) -> bool
     }
 }
 
-// Of the n rows from first on, the newest whose value has this number.
+// Of the n rows from first on, the newest whose value has this number. A function of its own in the compiled code, so that both leaves of a comparison are
+// looked up by the same loop.
+#[inline(never)]
 pub fn row_numbered(
     half: &[u32],
     first: usize,

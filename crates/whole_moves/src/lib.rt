@@ -394,6 +394,8 @@ pub fn move_dense_4_8(src: &[u8], dst: &mut [u8], count: usize, w: Words)
     move_each(src, dst, count, 4, 8, 0, 0, w, 4, 8);
 }
 
+// A function of its own in the compiled code: among all the loops of a block, this one's places would lie on the stack, and be read anew for each number.
+#[inline(never)]
 pub fn move_dense_8_8(src: &[u8], dst: &mut [u8], count: usize, w: Words)
     requires { Whole w × (w.source_size ≡ 8) × (w.size ≡ 8) × (count * 8 ≤ length src.now) × (count * 8 ≤ length dst.old) }
     ensures { dst.new ≡ each_made w 0 0 8 8 src.now count dst.old }
