@@ -1,4 +1,4 @@
--- Bytes one by one, read and written by straight-line code. Each law is over the order and the size. Assumes nothing.
+-- Bytes one by one: read by straight-line code, and written one after the other. Each law is over the order and the size. Assumes nothing.
 use mathlib.Core.Path.{◌≡◌, refl, sym, ap, ◌∙◌}
 use mathlib.Core.List.{List, [], ◌∷◌, ◌++◌, reverse, reverse-append}
 use Prim.Native.Nat.{ℕ, zero, suc, ◌+◌, ◌*◌, ◌^◌, ◌≤◌, ◌<◌}

@@ -1,4 +1,4 @@
--- What the functions inside this crate promise of single bytes. No meaning of document 01 stands here.
+-- What functions promise of single bytes, and of bytes written one after the other. No meaning of document 01 stands here.
 use Rattle.std.specs.Prelude.{List, ℕ, zero, suc, ◌+◌, ◌-◌, set, get_or}
 use Rattle.bits.specs.declared.Order.{Order}
 use Rattle.bits.specs.declared.Order.TheVariants.{LE, BE}
