@@ -19,4 +19,4 @@ returns g c =
     let a = c.args in
     let e : c.loop-i.i ≡ g.row.N = omega arith in
     put_all a.d.now _ a.at a.order g.row.N a.c c.requires.1
-        (c.loop-i.invariant ∙ ap (λ (k : ℕ). set_all a.d.now a.at (contained a.order g.row.N a.c) 0 k) e)
+    (c.loop-i.invariant ∙ ap (λ (k : ℕ). set_all a.d.now a.at (contained a.order g.row.N a.c) 0 k) e)
