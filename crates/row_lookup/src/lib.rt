@@ -38,20 +38,14 @@ pub fn row_named(
 fn has_number(half: &[u32], row: usize, negative: bool, distance: u64) -> bool
     ensures { result ≡ same_number (signed_by negative distance) (value_at half.now row) }
 {
-    let sign = flag_of(row_word(half, row, VALUE_SIGN));
     let low = row_word(half, row, VALUE_LOW);
     let high = row_word(half, row, VALUE_HIGH);
     let held = (low + high * HIGH) as u64;
-    if sign {
-        if negative { distance == held } else { false }
-    } else {
-        if negative { false } else { distance == held }
-    }
+    // the sign of most rows is not read, since their distance differs
+    distance == held && flag_of(row_word(half, row, VALUE_SIGN)) == negative
 }
 
-// Of the n rows from first on, the newest whose value has this number. A function of its own in the compiled code, so that both leaves of a comparison are
-// looked up by the same loop.
-#[inline(never)]
+// Of the n rows from first on, the newest whose value has this number.
 pub fn row_numbered(
     half: &[u32],
     first: usize,
